@@ -54,3 +54,23 @@ pub record IsAnswerToInstance (I : Problem) (text p : List ℕ) (c g : ℤ) : Ty
   pub json : IsJsonOf text value
   pub stated : IsStated I (root_of I.size) 0 value p c g
   pub unnamed : HasNoNames value
+
+-- a value lists the locations of a permutation, and states a cost and a bound that is no larger
+pub record StatesAnswer (scale : ℕ) (d : Data) (p : List ℕ) (c g : ℤ) : Type 0 where
+  pub locations : ListsLocations d p
+  pub cost : StatesNumber d (codes "cost") c scale
+  pub bound : IsBoundStated scale d c g
+
+-- the text is the JSON of such a value, in a plan's units; names, if present, are the plan's
+pub record StatesPlanned (P : NamedProblem) (text p : List ℕ) (c g : ℤ) : Type 0 where
+  pub value : Data
+  pub json : IsJsonOf text value
+  pub states : StatesAnswer (cost_scale P) value p c g
+  pub named : HasNamesOf P p value
+
+-- likewise without names
+pub record StatesFound (text p : List ℕ) (c g : ℤ) : Type 0 where
+  pub value : Data
+  pub json : IsJsonOf text value
+  pub states : StatesAnswer 0 value p c g
+  pub unnamed : HasNoNames value

@@ -36,3 +36,10 @@ stated_text p c g = place_lines 0 p ++ stated_line c g
 -- the cost alone
 abbrev pub cost_line : ℤ → List ℕ
 cost_line c = codes "cost " ++ signed_decimal c ++ codes "\n"
+
+-- what the proof of a part establishes, and when it was found
+abbrev pub part_line : ℤ → ℤ → List ℕ → List ℕ
+part_line c g when =
+    if int_lt g c
+    then codes "cost " ++ signed_decimal c ++ codes ", part within " ++ signed_decimal g ++ codes " to " ++ signed_decimal c ++ codes ", proved" ++ when ++ codes "\n"
+    else codes "cost " ++ signed_decimal c ++ codes ", part complete, proved" ++ when ++ codes "\n"

@@ -3,11 +3,13 @@ pub mod Answering
 pub mod Arranging
 pub mod Asking
 pub mod ChargedAnswer
+pub mod ChargedOutcome
 pub mod Charging
 pub mod Checking
 pub mod Keeping
 pub mod NodeLines
 pub mod Options
+pub mod Outcome
 pub mod Outputs
 pub mod Parts
 pub mod Picturing

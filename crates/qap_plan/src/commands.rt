@@ -3,6 +3,7 @@
 pub(crate) mod answering;
 pub(crate) mod arranging;
 pub(crate) mod charged_answer;
+pub(crate) mod charged_outcome;
 pub(crate) mod check;
 pub(crate) mod checking;
 pub(crate) mod command_line;

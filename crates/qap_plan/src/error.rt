@@ -1,8 +1,9 @@
 //! Why there is no answer.
 
-ghost use Rattle.std.specs.Prelude.{◌≡◌};
-ghost use Rattle.qap_plan.specs.declared.error.PlannerError.TheVariants.{OutOfMemory as WantOfMemory, Device as FailedDevice};
+ghost use Rattle.std.specs.Prelude.{◌≡◌, ◌⊎◌};
+ghost use Rattle.qap_plan.specs.declared.error.PlannerError.TheVariants.{Json as UnreadJson, OutOfMemory as WantOfMemory, Device as FailedDevice};
 
+use plan_check::AnswerError;
 use qap_io::{Device, Status};
 use qap_proof::ProofError;
 use qap_text::TextError;
@@ -39,6 +40,9 @@ pub enum PlannerError {
     /// Forbidden places cannot cost enough.
     #[error("the numbers are too large for [forbidden] and [allowed]: keep fewer decimals in the tables, as by `round = 2`")]
     TooWide,
+    /// The JSON of an answer does not read back as that answer.
+    #[error("the JSON does not read back as the answer: report this fault of the program")]
+    Json,
     /// Memory ran out.
     #[error("out of memory")]
     OutOfMemory,
@@ -81,6 +85,17 @@ impl From<ProofError> for PlannerError {
             ProofError::OutOfMemory => PlannerError::OutOfMemory,
             ProofError::Device => PlannerError::Device,
             _ => PlannerError::Proof(error),
+        }
+    }
+}
+
+impl From<AnswerError> for PlannerError {
+    ghost from_gives = { λ _ f. (f ≡ WantOfMemory) ⊎ (f ≡ UnreadJson) };
+
+    fn from(error: AnswerError) -> PlannerError {
+        match error {
+            AnswerError::OutOfMemory => PlannerError::OutOfMemory,
+            _ => PlannerError::Json,
         }
     }
 }

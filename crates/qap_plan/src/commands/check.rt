@@ -1,6 +1,6 @@
 //! The subcommand `check`: its command line and its run.
 
-use crate::commands::checking::checked_numbers;
+use crate::commands::checking::{CheckFault, confirmed_numbers, confirmed_plan};
 use crate::commands::command_line::ignore_rest;
 use crate::commands::show::with_answer;
 use crate::files::refusal::refuse_restricted;
@@ -8,7 +8,6 @@ use crate::input::instance_file::{instance_in, loaded_plan};
 use crate::input::judged_files::{bytes_of, print, refuse_answer, refuse_proof};
 use clap::{Arg, ArgMatches, Command};
 use plan_charge::is_restricting;
-use plan_check::{ProofFault, answer_to_instance, answer_to_plan, checked_line};
 use plan_input::is_plan;
 use std::alloc::{AllocError, Global};
 use std::process::ExitCode;
@@ -83,13 +82,7 @@ fn check_plan(rt: &HostRuntime, request: &CheckRequest<'_>, proof: Option<&[u8]>
         Err(code) => return code,
     };
     let alloc = rt.alloc();
-    match answer_to_plan(alloc, &problem, &text) {
-        Ok(answer) => {
-            let line = checked_line(alloc, &problem, &answer.permutation, proof);
-            tell(rt, request, line)
-        }
-        Err(error) => refuse_answer(rt, request.answer, &error),
-    }
+    tell(rt, request, confirmed_plan(alloc, &problem, &text, proof))
 }
 
 /// Checks an answer to an instance.
@@ -103,23 +96,26 @@ fn check_instance(rt: &HostRuntime, request: &CheckRequest<'_>, proof: Option<&[
         Err(code) => return code,
     };
     let alloc = rt.alloc();
-    match answer_to_instance(alloc, &instance, &text) {
-        Ok(answer) => {
-            let line = checked_numbers(alloc, &instance, &answer.permutation, proof);
-            tell(rt, request, line)
-        }
-        Err(error) => refuse_answer(rt, request.answer, &error),
-    }
+    tell(
+        rt,
+        request,
+        confirmed_numbers(alloc, &instance, &text, proof),
+    )
 }
 
-/// Prints the line, or reports why the proof is refused.
+/// Prints the line, or reports why the answer or its proof is refused.
 fn tell(
     rt: &HostRuntime,
     request: &CheckRequest<'_>,
-    line: Result<Vec<u8>, ProofFault>,
+    line: Result<Vec<u8>, CheckFault>,
 ) -> ExitCode {
     match line {
         Ok(line) => print(rt, &line),
-        Err(fault) => refuse_proof(rt, request.proof.unwrap_or(request.file), &fault),
+        Err(CheckFault::Answer(error)) => refuse_answer(rt, request.answer, &error),
+        Err(CheckFault::Proof(fault)) => refuse_proof(
+            rt,
+            request.proof.unwrap_or(request.file),
+            &fault,
+        ),
     }
 }

@@ -1,17 +1,76 @@
-//! The report on a checked answer to an instance.
+//! The reports on checked answers.
 
 ghost use Rattle.std.specs.Prelude.{IfOk, MatchOption, ◌≡◌};
+ghost use Rattle.plan_answer.specs.Stated.{IsCostLine};
+ghost use Rattle.plan_check.specs.Telling.{TellsProved};
+ghost use Rattle.plan_file.specs.Tables.{HasSizes};
 ghost use Rattle.qap_cost.specs.Objective.{Permutes, cost_of};
 ghost use Rattle.qap_plan.specs.Answer.{cost_line};
-ghost use Rattle.qap_plan.specs.Checking.{TellsProvedCost};
+ghost use Rattle.qap_plan.specs.Checking.{ConfirmsFound, ConfirmsPlan, TellsProvedCost};
 
 use crate::output::answer::{cost_line, verdict_line};
-use plan_check::{ProofFault, proved_bound};
+use plan_check::{
+    AnswerError, ProofFault, answer_to_instance, answer_to_plan, checked_line, proved_bound,
+};
+use plan_file::NamedProblem;
 use qap_cost::{Instance, Partial, Perm, cost};
 use std::alloc::Global;
 
+/// Why an answer is not confirmed.
+#[derive(Debug, Drop)]
+pub enum CheckFault {
+    /// The text is no answer.
+    Answer(AnswerError),
+    /// The proof establishes nothing about it.
+    Proof(ProofFault),
+}
+
+/// The line that reports what the answer costs whose JSON a text is, and if the text of a proof is given, what that
+/// establishes.
+pub fn confirmed_plan(
+    alloc: Global,
+    problem: &NamedProblem,
+    text: &[u8],
+    proof: Option<&[u8]>,
+) -> Result<Vec<u8>, CheckFault>
+    requires { HasSizes problem.now }
+    ensures { IfOk result (λ line. ConfirmsPlan problem.now text.now (λ p. MatchOption proof.entry
+        (IsCostLine problem.now (cost_of problem.now.instance p) line.items)
+        (λ t. TellsProved problem.now p t.now line.items))) }
+{
+    let answer = match answer_to_plan(alloc, problem, text) {
+        Ok(answer) => answer,
+        Err(error) => return Err(CheckFault::Answer(error)),
+    };
+    match checked_line(alloc, problem, &answer.permutation, proof) {
+        Ok(line) => Ok(line),
+        Err(fault) => Err(CheckFault::Proof(fault)),
+    }
+}
+
+/// Likewise for an answer to an instance.
+pub fn confirmed_numbers(
+    alloc: Global,
+    instance: &Instance,
+    text: &[u8],
+    proof: Option<&[u8]>,
+) -> Result<Vec<u8>, CheckFault>
+    ensures { IfOk result (λ line. ConfirmsFound instance.now text.now (λ p. MatchOption proof.entry
+        (line.items ≡ cost_line (cost_of instance.now p))
+        (λ t. TellsProvedCost instance.now p t.now line.items))) }
+{
+    let answer = match answer_to_instance(alloc, instance, text) {
+        Ok(answer) => answer,
+        Err(error) => return Err(CheckFault::Answer(error)),
+    };
+    match checked_numbers(alloc, instance, &answer.permutation, proof) {
+        Ok(line) => Ok(line),
+        Err(fault) => Err(CheckFault::Proof(fault)),
+    }
+}
+
 /// The line that reports the cost of a permutation, and if the text of a proof is given, what that establishes.
-pub fn checked_numbers(
+fn checked_numbers(
     alloc: Global,
     instance: &Instance,
     permutation: &Perm,

@@ -8,17 +8,17 @@ ghost use Rattle.qap_plan.specs.Options.{AreLimited};
 
 use crate::commands::arranging::plan_named;
 use crate::commands::command_line::{options_of, with_improvement, with_limits};
-use crate::commands::ending::end_of;
-use crate::commands::solve::{csv_text, tell_notes};
+use crate::commands::solve::tell_notes;
 use crate::error::PlannerError;
 use crate::files::outputs::{Inputs, Outputs, print_text, worse};
 use crate::files::refusal::{refuse, refuse_restricted};
 use crate::input::instance_file::{inputs_of, loaded_plan};
 use crate::input::judged_files::bytes_of;
 use crate::input::layout_file::{layout_in, solution_of};
+use crate::output::plan_outcome::table_text;
 use crate::output::progress::{Teller, telling_of};
 use crate::search::options::Options;
-use crate::search::planning::Planned;
+use crate::search::planning::{Planned, status_of};
 use crate::search::run_clock::RunClock;
 use clap::{Arg, ArgMatches, Command};
 use output_file::file_id;
@@ -160,9 +160,9 @@ where
         Ok(text) => text,
         Err(error) => return refuse(rt, request.file, error),
     };
-    let mut status = worse(end_of(&found), print_text(rt, &text));
+    let mut status = worse(status_of(found.cost, found.bound), print_text(rt, &text));
     if request.csv.is_some() {
-        let csv = csv_text(rt.alloc(), problem, &found.permutation);
+        let csv = table_text(rt.alloc(), problem, &found.permutation);
         status = worse(status, outputs.put(rt, request.csv, csv));
     }
     ExitCode::from(status.code())

@@ -1,9 +1,12 @@
 //! The subcommand `part`: its command line and its run.
 
-ghost use Rattle.std.specs.Prelude.{IfOk, IfSome};
+ghost use Rattle.std.specs.Prelude.{IfOk, IfSome, string_bytes, ◌≡◌, ◌≤◌};
 ghost use Rattle.qap_cost.specs.Objective.{Permutes};
 ghost use Rattle.qap_proof.specs.Claim.{IsRoot};
+ghost use Rattle.qap_plan.specs.Answer.{part_line};
 ghost use Rattle.qap_plan.specs.Options.{AreLimited};
+ghost use Rattle.qap_plan.specs.Outcome.{status_of as status_for};
+ghost use Rattle.qap_plan.specs.Outputs.{severity};
 
 use crate::commands::command_line::{ignore_rest, time_limit, with_limits};
 use crate::error::PlannerError;
@@ -15,7 +18,7 @@ use crate::output::progress::{Teller, telling_of};
 use crate::output::proof_file::proof_text;
 use crate::search::memory_limit::WithinMemory;
 use crate::search::options::{MAX_WORKERS, Options};
-use crate::search::planning::Planned;
+use crate::search::planning::{Planned, status_of};
 use crate::search::proving::prove_below;
 use crate::search::run_clock::RunClock;
 use crate::search::standing::standing_proof;
@@ -236,20 +239,23 @@ fn finish(
 }
 
 /// Prints what the proof of the part establishes, and returns the exit status.
-fn end(rt: &HostRuntime, cost: i128, bound: i128, when: &str) -> Status {
-    let status = if bound < cost {
-        Status::Stopped
-    } else {
-        Status::Done
-    };
+fn end(rt: &HostRuntime, cost: i128, bound: i128, when: &str) -> Status
+    ensures { severity (status_for cost bound) ≤ severity result }
+{
+    let status = status_of(cost, bound);
     match line_of(rt.alloc(), cost, bound, when) {
         Ok(line) => worse(status, print_text(rt, line.as_bytes())),
-        Err(_) => refuse_with(rt, "standard output", PlannerError::OutOfMemory),
+        Err(_) => worse(
+            status,
+            refuse_with(rt, "standard output", PlannerError::OutOfMemory),
+        ),
     }
 }
 
 /// The line with what the proof of the part establishes.
-fn line_of(alloc: Global, cost: i128, bound: i128, when: &str) -> Result<String, AllocError> {
+fn line_of(alloc: Global, cost: i128, bound: i128, when: &str) -> Result<String, AllocError>
+    ensures { IfOk result (λ line. string_bytes line ≡ part_line cost bound when.now) }
+{
     if bound < cost {
         format!(in alloc; "cost {cost}, part within {bound} to {cost}, proved{when}\n")
     } else {

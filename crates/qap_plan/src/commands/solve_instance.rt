@@ -4,14 +4,12 @@ ghost use Rattle.qap_plan.specs.Options.{AreLimited};
 
 use crate::commands::answering::plan_stream;
 use crate::commands::command_line::Request;
-use crate::commands::ending::{bytes_of_json, end_of, faulty_file};
+use crate::commands::ending::{faulty_file, write_outputs};
 use crate::error::PlannerError;
-use crate::files::outputs::{Outputs, one_input, print_text, worse};
+use crate::files::outputs::{Outputs, one_input};
 use crate::files::refusal::{refuse, refuse_picture};
-use crate::output::answer::answer_text;
-use crate::output::json::json_text;
+use crate::output::found_outcome::FoundOutcome;
 use crate::output::progress::{Teller, telling_of};
-use crate::output::proof_file::proof_text;
 use crate::search::keeper::Keeper;
 use crate::search::planning::Planned;
 use crate::search::run_clock::RunClock;
@@ -62,7 +60,13 @@ where
     let answer = answer_to(system, rt.alloc(), request, &teller, file, start);
     teller.finish();
     match answer {
-        Ok((answer, text)) => finish(rt, request, outputs, &answer, &text, elapsed.milliseconds()),
+        Ok(answer) => {
+            let found = FoundOutcome {
+                answer: &answer,
+                milliseconds: elapsed.milliseconds(),
+            };
+            ExitCode::from(write_outputs(rt, request, outputs, &found).code())
+        }
         Err(error) => refuse(rt, faulty_file(request, error), error),
     }
 }
@@ -97,7 +101,7 @@ pub(crate) fn start_of<'a, R: Files>(
     }
 }
 
-/// Solves the instance of a file, from the start of another one, and gives the answer with its text.
+/// Solves the instance of a file, from the start of another one.
 fn answer_to<T, K, R>(
     system: &T,
     alloc: Global,
@@ -105,55 +109,20 @@ fn answer_to<T, K, R>(
     keeper: &K,
     file: R,
     mut start: Option<Counted<R>>,
-) -> Result<(Planned, Vec<u8>), PlannerError>
+) -> Result<Planned, PlannerError>
 where
     T: Threads + Wait + Clock + Sync,
     K: Keeper,
     R: Read + Drop,
     requires { AreLimited request.now.options }
 {
-    let mut output = Counted::new(Vec::new(alloc));
-    let planned = plan_stream(
+    plan_stream(
         system,
         alloc,
         &mut Counted::new(file),
         &mut start,
-        &mut output,
+        &mut Counted::new(Vec::new(alloc)),
         &request.options,
         keeper,
-    )?;
-    Ok((planned, output.into_inner()))
-}
-
-/// Prints the answer and writes the requested files, each independently of the others, and returns the exit status.
-fn finish(
-    rt: &HostRuntime,
-    request: &Request<'_>,
-    mut outputs: Outputs<'_>,
-    answer: &Planned,
-    text: &[u8],
-    milliseconds: u64,
-) -> ExitCode {
-    let mut status = end_of(answer);
-    if !request.quiet {
-        status = worse(status, print_text(rt, text));
-    }
-    if request.out.is_some() {
-        let written = outputs.put(rt, request.out, out_text(rt.alloc(), answer));
-        status = worse(status, written);
-    }
-    if request.json.is_some() {
-        let json = bytes_of_json(json_text(rt.alloc(), answer, milliseconds));
-        status = worse(status, outputs.put(rt, request.json, json));
-    }
-    if request.proof.is_some() {
-        let proof = proof_text(rt.alloc(), answer);
-        status = worse(status, outputs.put(rt, request.proof, proof));
-    }
-    ExitCode::from(status.code())
-}
-
-/// The answer's text.
-fn out_text(alloc: Global, answer: &Planned) -> Result<Vec<u8>, PlannerError> {
-    Ok(answer_text(alloc, &answer.permutation, answer.cost, answer.bound)?)
+    )
 }

@@ -1,28 +1,22 @@
 //! A run on a plan with costs of places or forbidden places.
 
-ghost use Rattle.std.specs.Prelude.{IfOk, IfSome, ◌≡◌};
 ghost use Rattle.plan_charge.specs.Charges.{AreCharges};
 ghost use Rattle.plan_charge.specs.Forbidden.{AreForbidden};
 ghost use Rattle.plan_file.specs.Tables.{HasSizes};
-ghost use Rattle.qap_cost.specs.Placement.{Completes};
 ghost use Rattle.qap_plan.specs.Options.{AreLimited};
 
-use crate::commands::charged_answer::{ChargedAnswer, ChargedProblem, charged_answer};
+use crate::commands::charged_answer::{ChargedProblem, charged_answer};
+use crate::commands::charged_outcome::ChargedOutcome;
 use crate::commands::command_line::Request;
-use crate::commands::ending::{bytes_of_json, end_of, faulty_file};
-use crate::commands::solve::csv_text;
+use crate::commands::ending::{faulty_file, write_outputs};
 use crate::error::PlannerError;
-use crate::files::outputs::{Outputs, print_text, worse};
+use crate::files::outputs::Outputs;
 use crate::files::refusal::{refuse, refuse_restricted};
 use crate::input::instance_file::inputs_of;
 use crate::input::judged_files::bytes_of;
 use crate::input::layout_file::layout_in;
-use crate::output::json::charged_json_text;
-use crate::output::picturing::{captioned_picture, drawn_of};
 use crate::output::progress::{Teller, telling_of};
-use crate::output::proof_file::proof_text;
 use crate::search::run_clock::RunClock;
-use plan_answer::charged_verdict;
 use plan_file::NamedProblem;
 use plan_input::Loaded;
 use plan_table::{decode, is_layout};
@@ -81,14 +75,14 @@ where
     let answer = charged_answer(system, rt.alloc(), &charged, start, options, &teller);
     teller.finish();
     match answer {
-        Ok(answer) => finish(
-            rt,
-            request,
-            outputs,
-            loaded,
-            &answer,
-            elapsed.milliseconds(),
-        ),
+        Ok(answer) => {
+            let found = ChargedOutcome {
+                loaded,
+                answer: &answer,
+                milliseconds: elapsed.milliseconds(),
+            };
+            ExitCode::from(write_outputs(rt, request, outputs, &found).code())
+        }
         Err(error) => refuse(rt, faulty_file(request, error), error),
     }
 }
@@ -121,63 +115,4 @@ fn refuse_start(rt: &HostRuntime, file: &str) -> ExitCode {
         "error: {file}: a plan with costs of places, [forbidden] or [allowed] starts from a table with the columns department and place: name one, as --csv writes it"
     ));
     ExitCode::from(Status::Refused.code())
-}
-
-/// Prints the answer and writes the requested files, each independently of the others, and returns the exit status.
-fn finish(
-    rt: &HostRuntime,
-    request: &Request<'_>,
-    mut outputs: Outputs<'_>,
-    loaded: &Loaded,
-    answer: &ChargedAnswer,
-    milliseconds: u64,
-) -> ExitCode
-    requires sizes { HasSizes loaded.now.problem }
-    requires kept { Completes loaded.now.problem.fixed answer.now.planned.permutation }
-{
-    let alloc = rt.alloc();
-    let problem = &loaded.problem;
-    let found = &answer.planned;
-    let mut status = end_of(found);
-    if !request.quiet {
-        status = worse(status, print_text(rt, &answer.text));
-    }
-    if request.out.is_some() {
-        let text = answer.text.clone().map_err(PlannerError::from);
-        status = worse(status, outputs.put(rt, request.out, text));
-    }
-    if request.json.is_some() {
-        let parts = answer.parts;
-        let json = charged_json_text(alloc, problem, found, parts, milliseconds);
-        status = worse(status, outputs.put(rt, request.json, bytes_of_json(json)));
-    }
-    if request.csv.is_some() {
-        let csv = csv_text(alloc, problem, &found.permutation);
-        status = worse(status, outputs.put(rt, request.csv, csv));
-    }
-    if request.svg.is_some() {
-        let svg = picture_of(rt, loaded, answer);
-        status = worse(status, outputs.put(rt, request.svg, svg));
-    }
-    if request.proof.is_some() {
-        let proof = proof_text(alloc, found);
-        status = worse(status, outputs.put(rt, request.proof, proof));
-    }
-    ExitCode::from(status.code())
-}
-
-/// The picture of the arrangement, with what is proved about its cost.
-fn picture_of(
-    rt: &HostRuntime,
-    loaded: &Loaded,
-    answer: &ChargedAnswer,
-) -> Result<Vec<u8>, PlannerError>
-    requires sizes { HasSizes loaded.now.problem }
-    requires kept { Completes loaded.now.problem.fixed answer.now.planned.permutation }
-{
-    let (problem, found) = (&loaded.problem, &answer.planned);
-    let is_forbidding = loaded.forbidden.count > 0;
-    let verdict = charged_verdict(rt.alloc(), problem, found.cost, found.bound, is_forbidding)?;
-    let drawn = &drawn_of(loaded);
-    captioned_picture(rt.alloc(), problem, &found.permutation, &verdict, drawn)
 }

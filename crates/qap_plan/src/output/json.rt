@@ -1,10 +1,15 @@
-//! An answer as JSON.
+//! An answer as JSON. Each text is read back before it is given out, so that what `show` and `check` read in it is that
+//! answer.
 
+ghost use Rattle.std.specs.Prelude.{IfOk};
+ghost use Rattle.plan_check.specs.Answer.{StatesFound, StatesPlanned};
 ghost use Rattle.plan_file.specs.Tables.{HasSizes};
 ghost use Rattle.qap_cost.specs.Placement.{Completes};
 
+use crate::error::PlannerError;
 use crate::search::planning::Planned;
 use plan_answer::{CostParts, cost_text, dearest_pairs, gap_text};
+use plan_check::{states_found, states_planned};
 use plan_file::NamedProblem;
 use qap_command::VERSION;
 use qap_cost::Perm;
@@ -17,7 +22,22 @@ const PAIRS: usize = 5;
 /// The answer, in one object: `status` is `optimal` or `bounded`; `cost` and `bound` are texts, since they may pass 64
 /// bits; `permutation` has the location of each facility, counted from 1; `nodes` were decided and `open` were left
 /// open, in this many `milliseconds`.
-pub fn json_text(alloc: Global, answer: &Planned, milliseconds: u64) -> Result<String, AllocError> {
+pub fn json_text(
+    alloc: Global,
+    answer: &Planned,
+    milliseconds: u64,
+) -> Result<Vec<u8>, PlannerError>
+    ensures { IfOk result (λ text. StatesFound text.items answer.now.permutation answer.now.cost answer.now.bound) }
+{
+    let text = numbers_text(alloc, answer, milliseconds)?.into_bytes();
+    if !states_found(alloc, &text, &answer.permutation, answer.cost, answer.bound)? {
+        return Err(PlannerError::Json);
+    }
+    Ok(text)
+}
+
+/// The text of that object.
+fn numbers_text(alloc: Global, answer: &Planned, milliseconds: u64) -> Result<String, AllocError> {
     let cost = answer.cost;
     let bound = answer.bound;
     let value = json!(in alloc; {
@@ -43,11 +63,38 @@ pub fn named_json_text(
     problem: &NamedProblem,
     answer: &Planned,
     milliseconds: u64,
-) -> Result<String, AllocError>
+) -> Result<Vec<u8>, PlannerError>
     requires sizes { HasSizes problem.now }
     requires kept { Completes problem.now.fixed answer.now.permutation }
+    ensures { IfOk result (λ text. StatesPlanned problem.now text.items answer.now.permutation answer.now.cost answer.now.bound) }
 {
-    named_value(alloc, problem, answer, milliseconds)?.to_string(alloc)
+    let text = named_value(alloc, problem, answer, milliseconds)?.to_string(alloc)?;
+    read_back(alloc, problem, answer, text.into_bytes())
+}
+
+/// The text, if it reads back as the answer.
+fn read_back(
+    alloc: Global,
+    problem: &NamedProblem,
+    answer: &Planned,
+    text: Vec<u8>,
+) -> Result<Vec<u8>, PlannerError>
+    requires sizes { HasSizes problem.now }
+    requires kept { Completes problem.now.fixed answer.now.permutation }
+    ensures { IfOk result (λ text. StatesPlanned problem.now text.items answer.now.permutation answer.now.cost answer.now.bound) }
+{
+    let permutation = &answer.permutation;
+    if !states_planned(
+        alloc,
+        problem,
+        &text,
+        permutation,
+        answer.cost,
+        answer.bound,
+    )? {
+        return Err(PlannerError::Json);
+    }
+    Ok(text)
 }
 
 /// Likewise for a problem whose places cost something or are forbidden: `flows_cost` and `places_cost` are the parts of
@@ -58,7 +105,24 @@ pub fn charged_json_text(
     answer: &Planned,
     parts: Option<CostParts>,
     milliseconds: u64,
-) -> Result<String, AllocError>
+) -> Result<Vec<u8>, PlannerError>
+    requires sizes { HasSizes problem.now }
+    requires kept { Completes problem.now.fixed answer.now.permutation }
+    ensures { IfOk result (λ text. StatesPlanned problem.now text.items answer.now.permutation answer.now.cost answer.now.bound) }
+{
+    let value = charged_value(alloc, problem, answer, parts, milliseconds)?;
+    let text = value.to_string(alloc)?;
+    read_back(alloc, problem, answer, text.into_bytes())
+}
+
+/// The object of such an answer.
+fn charged_value(
+    alloc: Global,
+    problem: &NamedProblem,
+    answer: &Planned,
+    parts: Option<CostParts>,
+    milliseconds: u64,
+) -> Result<Value, AllocError>
     requires sizes { HasSizes problem.now }
     requires kept { Completes problem.now.fixed answer.now.permutation }
 {
@@ -72,7 +136,7 @@ pub fn charged_json_text(
             Value::String(places),
         )?;
     }
-    value.to_string(alloc)
+    Ok(value)
 }
 
 /// The object of an answer to a problem with names.

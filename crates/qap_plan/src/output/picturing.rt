@@ -3,6 +3,8 @@
 ghost use Rattle.std.specs.Prelude.{IfOk, length, ◌≡◌};
 ghost use Rattle.plan_file.specs.Tables.{HasSizes};
 ghost use Rattle.plan_picture.specs.Picture.{IsPicture};
+ghost use Rattle.plan_report.specs.Page.{IsPage};
+ghost use Rattle.plan_report.specs.declared.page.Report.{Report};
 ghost use Rattle.qap_cost.specs.Placement.{Completes};
 ghost use Rattle.qap_plan.specs.Picturing.{ShowsVerdict};
 
@@ -88,6 +90,7 @@ pub fn report_text(
 ) -> Result<Vec<u8>, PlannerError>
     requires sizes { HasSizes problem.now }
     requires kept { Completes problem.now.fixed answer.now.permutation }
+    ensures { IfOk result (λ text. (report : Report) × IsPage problem.now answer.now.permutation answer.now.cost answer.now.bound report text.items) }
 {
     let compared = compared_with(alloc, problem, answer, start)?;
     let title = title_or(drawn.title, file);

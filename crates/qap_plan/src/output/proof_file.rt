@@ -3,6 +3,7 @@
 ghost use Rattle.std.specs.Prelude.{IfOk, ◌≡◌};
 ghost use Rattle.proof_search.specs.Held.{text_of};
 ghost use Rattle.qap_proof.specs.Text.{IsProofText};
+ghost use Rattle.qap_plan.specs.Outcome.{IsTextOfProof};
 
 use crate::error::PlannerError;
 use crate::search::planning::Planned;
@@ -12,7 +13,9 @@ use qap_proof::{Proof, write};
 use std::alloc::Global;
 
 /// The text of an answer's proof; none if it has no proof.
-pub fn proof_text(alloc: Global, answer: &Planned) -> Result<Vec<u8>, PlannerError> {
+pub fn proof_text(alloc: Global, answer: &Planned) -> Result<Vec<u8>, PlannerError>
+    ensures { IfOk result (λ text. IsTextOfProof answer.now.proof answer.now.pair_proof text.items) }
+{
     match (&answer.proof, &answer.pair_proof) {
         (Some(proof), _) => text_of_proof(alloc, proof),
         (None, Some(proof)) => text_of_pair_proof(alloc, proof),
@@ -36,8 +39,7 @@ fn text_of_pair_proof(alloc: Global, proof: &PairProof) -> Result<Vec<u8>, Plann
 pub fn text_of_proof(alloc: Global, proof: &Proof) -> Result<Vec<u8>, PlannerError>
     ensures { IfOk result (λ text. IsProofText text.items proof.now) }
 {
-    // Its clause says that this is a proof.
-    let _cost = proof.cost();
+    proof.proof_law();
     let mut text = Counted::new(Vec::new(alloc));
     write(alloc, &mut text, proof)?;
     Ok(text.into_inner())

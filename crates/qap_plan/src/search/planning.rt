@@ -1,9 +1,11 @@
 //! What a search has found.
 
 ghost use Rattle.std.specs.Prelude.{true, ◌↔◌, ◌≡◌, ◌≤ℤ◌};
+ghost use Rattle.qap_plan.specs.Outcome.{status_of as status_for};
 
 use proof_search::PairProof;
 use qap_cost::Perm;
+use qap_io::Status;
 use qap_proof::Proof;
 
 /// What a search has found.
@@ -30,5 +32,16 @@ impl Planned {
         ensures { (result ≡ true) ↔ (self.now.cost ≤ℤ self.now.bound) }
     {
         self.bound >= self.cost
+    }
+}
+
+/// How a run ends that has found an arrangement with this cost and this bound.
+pub fn status_of(cost: i128, bound: i128) -> Status
+    ensures { result ≡ status_for cost bound }
+{
+    if bound < cost {
+        Status::Stopped
+    } else {
+        Status::Done
     }
 }

@@ -128,8 +128,7 @@ fn prove_by_rows<K: Keeper>(
     ensures pair_proof { IfOk result (λ x. x.pair_proof ≡ None) }
 {
     proof_law();
-    // Its clause says that this is an instance.
-    let _size = instance.size();
+    instance.instance_law();
     let watcher = Watcher::new(within);
     let counter = Counter {
         watcher: &watcher,

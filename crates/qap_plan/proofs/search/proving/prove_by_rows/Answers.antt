@@ -13,7 +13,7 @@ returns-clause-searched g c =
       costs = found.proves.cost;
       no_dearer = found.no_dearer;
       none_less = λ q completes.
-          c.proof_law.ensures.bound I C c.size-size.ensures.instance found.shape found.proves q
+          c.proof_law.ensures.bound I C c.instance_law.ensures found.shape found.proves q
           (record { bijection = completes.bijection; same_size = completes.same_size ∙ c.requires.root.size })
           (subst (λ (x : Placement). Completes x q) (sym found.root) completes);
       at_most = found.shape.bound.at_most;

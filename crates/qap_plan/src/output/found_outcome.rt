@@ -1,0 +1,50 @@
+//! What the outputs of a run on an instance tell.
+
+ghost use Rattle.std.specs.Prelude.{IfOk, ⊤, ◌≡◌};
+ghost use Rattle.qap_plan.specs.Answer.{answer_text as text_of_answer};
+ghost use Rattle.qap_plan.specs.Outcome.{TellsFound, status_of as status_for};
+
+use crate::error::PlannerError;
+use crate::output::answer::answer_text;
+use crate::output::json::json_text;
+use crate::output::outcome::{Kind, Outcome};
+use crate::output::proof_file::proof_text;
+use crate::search::planning::{Planned, status_of};
+use qap_io::Status;
+use std::alloc::Global;
+
+/// What a run on an instance has found. It has neither table nor picture nor report.
+#[derive(Drop)]
+pub struct FoundOutcome<'a> {
+    pub answer: &'a Planned,
+    pub milliseconds: u64,
+}
+
+impl Outcome for FoundOutcome<'_> {
+    ghost is_sound = { λ s. ⊤ };
+
+    ghost tells = { λ s. TellsFound s.answer.now };
+
+    ghost ends = { λ s. status_for s.answer.now.cost s.answer.now.bound };
+
+    fn text(&self, alloc: Global, kind: Kind) -> Result<Vec<u8>, PlannerError> {
+        match kind {
+            Kind::Answer => words_text(alloc, self.answer),
+            Kind::Json => json_text(alloc, self.answer, self.milliseconds),
+            Kind::Proof => proof_text(alloc, self.answer),
+            Kind::Table | Kind::Picture | Kind::Report => Ok(Vec::new(alloc)),
+        }
+    }
+
+    fn status(&self) -> Status {
+        status_of(self.answer.cost, self.answer.bound)
+    }
+}
+
+/// The answer in words.
+fn words_text(alloc: Global, answer: &Planned) -> Result<Vec<u8>, PlannerError>
+    ensures { IfOk result (λ text. text.items ≡ text_of_answer answer.now.permutation answer.now.cost answer.now.bound) }
+{
+    let text = answer_text(alloc, &answer.permutation, answer.cost, answer.bound)?;
+    Ok(text)
+}

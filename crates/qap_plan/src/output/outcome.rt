@@ -1,0 +1,41 @@
+//! What a run has found, as its outputs tell it.
+
+ghost use Rattle.std.specs.Prelude.{◌≡◌, ℕ, IfOk, List};
+ghost use Rattle.qap_io.specs.declared.status.Status.{Status};
+ghost use Rattle.qap_plan.specs.declared.output.outcome.Kind.{Kind};
+
+use crate::error::PlannerError;
+use qap_io::Status;
+use std::alloc::Global;
+
+/// An output of a run.
+#[derive(Clone, Copy, Debug, PartialEq, Eq)]
+pub enum Kind {
+    /// The answer in words.
+    Answer,
+    Json,
+    /// A table of departments and places.
+    Table,
+    Picture,
+    Report,
+    Proof,
+}
+
+/// What a run has found, with the text of each of its outputs.
+pub trait Outcome {
+    /// The text of an output can be made.
+    ghost is_sound: { Self → Type 0 };
+
+    /// What the text of an output tells.
+    ghost tells: { Self → Kind → List ℕ → Type 0 };
+
+    /// How the run ends if all outputs are written.
+    ghost ends: { Self → Status };
+
+    fn text(&self, alloc: Global, kind: Kind) -> Result<Vec<u8>, PlannerError>
+        requires { is_sound self.now }
+        ensures { IfOk result (λ text. tells self.now kind text.items) };
+
+    fn status(&self) -> Status
+        ensures { result ≡ ends self.now };
+}
