@@ -3,11 +3,13 @@ pub mod Closings
 pub mod Covers
 pub mod Endings
 pub mod KidLists
+pub mod Needing
 pub mod Nodes
 pub mod Pieces
 pub mod Progress
 pub mod RowLists
 pub mod Settling
+pub mod StepBounds
 pub mod Trees
 pub mod Tries
 pub mod Wholes

@@ -1,5 +1,5 @@
 -- Nodes that no better permutation completes, and values that reach every bound up to a cost.
-use Rattle.std.specs.Prelude.{◌≡◌, ℕ, Bool, true, List, ℤ, pos, ◌+ℤ◌, ◌-ℤ◌, ◌*ℤ◌, ◌≤ℤ◌, ◌<ℤ◌}
+use Rattle.std.specs.Prelude.{◌≡◌, ℕ, Bool, true, false, List, ℤ, pos, ◌+ℤ◌, ◌-ℤ◌, ◌*ℤ◌, ◌≤ℤ◌, ◌<ℤ◌}
 use Rattle.qap_cost.specs.Instance.{Problem}
 use Rattle.qap_cost.specs.Matrix.{total}
 use Rattle.qap_cost.specs.Objective.{cost_of}
@@ -28,10 +28,19 @@ pub record ReachesTrivially (I : Problem) (scale : ℕ) (c : ℤ) (R : Form) : T
   pub columns : AreLeast (count_of R) R.entries u v
   pub reaches : Reaches I scale c (R.value +ℤ (total u +ℤ total v))
 
--- the row minima, and then the column minima; their sum with the value is above the threshold if it closes
+-- the value of a form with its row minima, and then its column minima, is not above the threshold
+pub record StaysWithin (R : Form) (threshold : ℤ) : Type 0 where
+  pub u : List ℤ
+  pub v : List ℤ
+  pub rows : AreLeastOfRows (count_of R) R.entries u
+  pub columns : AreLeast (count_of R) R.entries u v
+  pub within : (R.value +ℤ (total u +ℤ total v)) ≤ℤ threshold
+
+-- the row minima, and then the column minima; the form closes if and only if their sum with the value is above the threshold
 pub record HasLeast (R : Form) (threshold : ℤ) (is_closed : Bool) : Type 0 where
   pub u : List ℤ
   pub v : List ℤ
   pub rows : AreLeastOfRows (count_of R) R.entries u
   pub columns : AreLeast (count_of R) R.entries u v
   pub closes : is_closed ≡ true → threshold <ℤ (R.value +ℤ (total u +ℤ total v))
+  pub left : is_closed ≡ false → (R.value +ℤ (total u +ℤ total v)) ≤ℤ threshold

@@ -6,6 +6,7 @@ pub mod Drawn
 pub mod Images
 pub mod Kids
 pub mod Lines
+pub mod Needs
 pub mod Opens
 pub mod Outcomes
 pub mod Path

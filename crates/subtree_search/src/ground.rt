@@ -7,7 +7,7 @@ ghost use Rattle.pair_duals.specs.Reduced.{IsChild, IsNonNegative, IsStart, at, 
 ghost use Rattle.pair_duals.specs.Seats.{child_at};
 ghost use Rattle.subtree_search.specs.Adding.{Extends};
 ghost use Rattle.subtree_search.specs.Best.{IsIncumbent};
-ghost use Rattle.subtree_search.specs.Closed.{IsClosed, Reaches, ReachesTrivially, threshold_of};
+ghost use Rattle.subtree_search.specs.Closed.{IsClosed, Reaches, ReachesTrivially, StaysWithin, threshold_of};
 ghost use Rattle.subtree_search.specs.Drawn.{IsDrawn};
 ghost use Rattle.subtree_search.specs.Lines.{IsLineOf, own_of, side_of};
 ghost use Rattle.subtree_search.specs.Opens.{IsOpenAt};
@@ -61,8 +61,7 @@ impl Ground<'_> {
         ensures count { OnOk result (count_of level.new.form ≡ length self.now.duals.now.facilities) }
         ensures start { OnOk result (IsStart self.now.instance.now self.now.duals.now node.now level.new.form) }
     {
-        // Its clause says that the node is one.
-        let _depth = node.depth();
+        node.placement_law();
         path.start(node)?;
         level.begin(node, self.flows, self.distances)?;
         level.form.start(self.instance, node, self.duals)?;
@@ -83,7 +82,8 @@ impl Ground<'_> {
         requires column { g < count_of level.now.form }
         requires next { IsNode self.now.instance.now self.now.duals.now self.now.step (child_at path.now h g) next.now.form }
         requires least { IsNonNegative next.now.form }
-        ensures { IsOpenAt self.now.instance.now self.now.duals.now.scale path.now (child_at path.now h g) result }
+        ensures opened { IsOpenAt self.now.instance.now self.now.duals.now.scale path.now (child_at path.now h g) result }
+        ensures value { result.value ≡ next.now.form.value }
     {
         let facility = self.duals.facility(usize::from(level.form.rows()[h]));
         let location = self.duals.location(usize::from(level.form.columns()[g]));
@@ -112,7 +112,8 @@ impl Ground<'_> {
         requires incumbent { IsIncumbent self.now.instance.now incumbent.now }
         requires row { h < count_of level.now.form }
         requires column { g < count_of level.now.form }
-        ensures { IsTrue result → Reaches self.now.instance.now self.now.duals.now.scale incumbent.now.cost (level.now.form.value +ℤ at level.now.form h g) }
+        ensures reaches { IsTrue result → Reaches self.now.instance.now self.now.duals.now.scale incumbent.now.cost (level.now.form.value +ℤ at level.now.form h g) }
+        ensures kept { result ≡ false → (level.now.form.value +ℤ at level.now.form h g) ≤ℤ threshold_of self.now.duals.now.scale self.now.step incumbent.now.cost }
     {
         let prunes = level.form.prunes(h, g, self.threshold(incumbent));
         prunes
@@ -140,8 +141,7 @@ impl Ground<'_> {
         let location = self.duals.location(usize::from(level.form.columns()[g]));
         next.match_below(level, h, g);
         next.keep_below(level, self.flows, self.distances, facility, location)?;
-        // Its clause says within which limits the duals are.
-        let _free = self.duals.free();
+        self.duals.duals_law();
         level
             .form
             .child(self.instance, self.duals, h, g, &mut next.form)?;
@@ -160,6 +160,7 @@ impl Ground<'_> {
         requires node { IsNode self.now.instance.now self.now.duals.now self.now.step path.now level.old.form }
         requires incumbent { IsIncumbent self.now.instance.now incumbent.old }
         ensures closed { IfOk result (λ closes. IsTrue closes → ReachesTrivially self.now.instance.now self.now.duals.now.scale incumbent.new.cost level.old.form) }
+        ensures left { IfOk result (λ closes. closes ≡ false → StaysWithin level.old.form (threshold_of self.now.duals.now.scale self.now.step incumbent.old.cost)) }
         ensures form { level.new.form ≡ level.old.form }
         ensures incumbent { IsIncumbent self.now.instance.now incumbent.new }
         ensures no_worse { incumbent.new.cost ≤ℤ incumbent.old.cost }
@@ -186,6 +187,7 @@ impl Ground<'_> {
         requires incumbent { IsIncumbent self.now.instance.now incumbent.old }
         ensures closed { IfOk result (λ closes. IsTrue closes → Reaches self.now.instance.now self.now.duals.now.scale incumbent.new.cost level.now.form.value) }
         ensures left { IfOk result (λ closes. closes ≡ false → 0 < count_of level.now.form) }
+        ensures within { IfOk result (λ closes. closes ≡ false → level.now.form.value ≤ℤ threshold_of self.now.duals.now.scale self.now.step incumbent.old.cost) }
         ensures incumbent { IsIncumbent self.now.instance.now incumbent.new }
         ensures no_worse { incumbent.new.cost ≤ℤ incumbent.old.cost }
     {
@@ -237,6 +239,7 @@ impl Ground<'_> {
         ensures extended { OnOk result (Extends (W.holds proof.old) (W.holds proof.new)) }
         ensures drawn { IfOk result (λ closes. closes ≡ false → IsDrawn level.old.form level.new.form level.new.u.items) }
         ensures left { IfOk result (λ closes. closes ≡ false → proof.new ≡ proof.old) }
+        ensures within { IfOk result (λ closes. closes ≡ false → level.new.form.value ≤ℤ threshold_of self.now.duals.now.scale self.now.step incumbent.old.cost) }
         ensures incumbent { IsIncumbent self.now.instance.now incumbent.new }
         ensures no_worse { incumbent.new.cost ≤ℤ incumbent.old.cost }
     {
@@ -262,8 +265,7 @@ impl Ground<'_> {
         ensures incumbent { IsIncumbent self.now.instance.now incumbent.new }
         ensures no_worse { incumbent.new.cost ≤ℤ incumbent.old.cost }
     {
-        // Its clause says that the scale is positive.
-        let _free = self.duals.free();
+        self.duals.duals_law();
         let candidate = path.completion()?;
         incumbent.offer(self.instance, candidate);
         Ok(())

@@ -31,7 +31,7 @@ impl Incumbent {
         ensures permutation { result.permutation ≡ permutation }
         ensures incumbent { IsIncumbent instance.now result }
     {
-        let _count = permutation.len();
+        permutation.permutation_law();
         let cost = cost(instance, &permutation);
         Incumbent { permutation, cost }
     }

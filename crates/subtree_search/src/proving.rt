@@ -126,8 +126,7 @@ fn prove_node<S: Stop, W: Record>(
     let (first, deeper) = levels.split_at_mut(1);
     let level = &mut first[0];
     ground.begin(part.node, level, path)?;
-    // Its clause says within which limits the duals are.
-    let _free = ground.duals.free();
+    ground.duals.duals_law();
     proof.pair_duals(ground.duals)?;
     if ground.closes_as_leaf(level, path, incumbent, proof)? {
         return Ok(true);

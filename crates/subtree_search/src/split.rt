@@ -1,12 +1,13 @@
 //! The split of a node whose children are tried, each within a limit.
 
-ghost use Rattle.std.specs.Prelude.{◌≡◌, ◌<◌, ◌≤◌, ◌≤ℤ◌, pos, All, IfOk, OnOk, length};
+ghost use Rattle.std.specs.Prelude.{◌≡◌, ◌<◌, ◌≤◌, ◌≤ℤ◌, pos, All, IfOk, IfSome, OnOk, length};
 ghost use Rattle.pair_duals.specs.CostStep.{step_of};
 ghost use Rattle.pair_duals.specs.PairDuals.{AreOf, Fit};
 ghost use Rattle.pair_duals.specs.Range.{IsInScale};
 ghost use Rattle.pair_duals.specs.Reduced.{IsNonNegative, count_of};
 ghost use Rattle.subtree_search.specs.Best.{IsIncumbent};
 ghost use Rattle.subtree_search.specs.Lines.{IsLineOf, child_on};
+ghost use Rattle.subtree_search.specs.Needs.{IsLeft, IsLined, NeedsTrial};
 ghost use Rattle.subtree_search.specs.Opens.{Adds, Becomes, IsOpen, IsSettled};
 ghost use Rattle.subtree_search.specs.Premises.{AreSound, AreSymmetries, IsNode, limits_of_64};
 
@@ -51,6 +52,7 @@ impl SubtreeSearch {
         requires incumbent { IsIncumbent subtree.now.instance.now incumbent.old }
         ensures settled { IfOk result (λ children. IsSettled subtree.now.instance.now subtree.now.node.now incumbent.new.cost children.items subtree.now.node.now) }
         ensures opened { IfOk result (λ children. All (IsOpen subtree.now.instance.now subtree.now.duals.now.scale subtree.now.node.now) children.items) }
+        ensures needed { IfOk result (λ children. All (NeedsTrial subtree.now.instance.now subtree.now.duals.now (step_of subtree.now.instance.now) subtree.now.node.now incumbent.new.cost incumbent.old.cost) children.items) }
         ensures incumbent { IsIncumbent subtree.now.instance.now incumbent.new }
         ensures no_worse { incumbent.new.cost ≤ℤ incumbent.old.cost }
     {
@@ -101,6 +103,7 @@ fn split_node<S: Stop>(
     requires incumbent { IsIncumbent task.now.ground.now.instance.now incumbent.old }
     ensures settled { IfOk result (λ children. IsSettled task.now.ground.now.instance.now node.now incumbent.new.cost children.items node.now) }
     ensures opened { IfOk result (λ children. All (IsOpen task.now.ground.now.instance.now task.now.ground.now.duals.now.scale node.now) children.items) }
+    ensures needed { IfOk result (λ children. All (NeedsTrial task.now.ground.now.instance.now task.now.ground.now.duals.now task.now.ground.now.step node.now incumbent.new.cost incumbent.old.cost) children.items) }
     ensures incumbent { IsIncumbent task.now.ground.now.instance.now incumbent.new }
     ensures no_worse { incumbent.new.cost ≤ℤ incumbent.old.cost }
 {
@@ -126,12 +129,14 @@ fn split_children<S: Stop>(
 ) -> Result<Vec<OpenChild>, AllocError>
     requires node { IsNode task.now.ground.now.instance.now task.now.ground.now.duals.now task.now.ground.now.step path.old level.now.form }
     requires least { IsNonNegative level.now.form }
+    requires lined { IsLined task.now.ground.now.instance.now task.now.ground.now.duals.now path.old level.now.form }
     requires left { 0 < count_of level.now.form }
     requires room { count_of level.now.form ≤ length deeper.old }
     requires symmetries { AreSymmetries task.now.ground.now.instance.now task.now.ground.now.flows.now task.now.ground.now.distances.now }
     requires incumbent { IsIncumbent task.now.ground.now.instance.now incumbent.old }
     ensures settled { IfOk result (λ children. IsSettled task.now.ground.now.instance.now path.old incumbent.new.cost children.items path.old) }
     ensures opened { IfOk result (λ children. All (IsOpen task.now.ground.now.instance.now task.now.ground.now.duals.now.scale path.old) children.items) }
+    ensures needed { IfOk result (λ children. All (NeedsTrial task.now.ground.now.instance.now task.now.ground.now.duals.now task.now.ground.now.step path.old incumbent.new.cost incumbent.old.cost) children.items) }
     ensures incumbent { IsIncumbent task.now.ground.now.instance.now incumbent.new }
     ensures no_worse { incumbent.new.cost ≤ℤ incumbent.old.cost }
 {
@@ -180,6 +185,7 @@ fn child_left<S: Stop>(
     requires symmetries { AreSymmetries task.now.ground.now.instance.now task.now.ground.now.flows.now task.now.ground.now.distances.now }
     requires incumbent { IsIncumbent task.now.ground.now.instance.now incumbent.old }
     ensures child { IfOk result (Becomes task.now.ground.now.instance.now task.now.ground.now.duals.now.scale path.old (child_on path.old split.now.line k) incumbent.new.cost) }
+    ensures left { IfOk result (λ child. IfSome child (IsLeft task.now.ground.now.instance.now task.now.ground.now.duals.now task.now.ground.now.step path.old split.now.level.now.form incumbent.old.cost)) }
     ensures path { OnOk result (path.new ≡ path.old) }
     ensures incumbent { IsIncumbent task.now.ground.now.instance.now incumbent.new }
     ensures no_worse { incumbent.new.cost ≤ℤ incumbent.old.cost }

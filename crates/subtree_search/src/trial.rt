@@ -1,10 +1,12 @@
 //! Trials of the children of a split, each within a limit.
 
-ghost use Rattle.std.specs.Prelude.{◌≡◌, ◌<◌, ◌≤◌, ◌≤ℤ◌, ℕ, List, false, IfOk, IsTrue, OnOk, length};
+ghost use Rattle.std.specs.Prelude.{◌≡◌, ◌<◌, ◌≤◌, ◌≤ℤ◌, ℕ, List, false, IfOk, IfSome, IsTrue, OnOk, length};
 ghost use Rattle.pair_duals.specs.Reduced.{count_of};
 ghost use Rattle.subtree_search.specs.Best.{IsIncumbent};
+ghost use Rattle.subtree_search.specs.Closed.{threshold_of};
 ghost use Rattle.subtree_search.specs.Drawn.{IsDrawn};
-ghost use Rattle.subtree_search.specs.Lines.{IsLineOf, child_on};
+ghost use Rattle.subtree_search.specs.Lines.{IsLineOf, child_on, column_on, row_on};
+ghost use Rattle.subtree_search.specs.Needs.{StaysOpen};
 ghost use Rattle.subtree_search.specs.Opens.{Becomes};
 ghost use Rattle.subtree_search.specs.Premises.{AreSymmetries, IsNode};
 ghost use Rattle.subtree_search.specs.Recorded.{HasTree};
@@ -44,6 +46,7 @@ pub(crate) fn try_child<S: Stop, W: Record>(
     requires symmetries { AreSymmetries task.now.ground.now.instance.now task.now.ground.now.flows.now task.now.ground.now.distances.now }
     requires incumbent { IsIncumbent task.now.ground.now.instance.now incumbent.old }
     ensures child { IfOk result (Becomes task.now.ground.now.instance.now task.now.ground.now.duals.now.scale path.old (child_on path.old split.now.line k) incumbent.new.cost) }
+    ensures left { IfOk result (λ child. IfSome child (StaysOpen task.now.ground.now.instance.now task.now.ground.now.duals.now task.now.ground.now.step split.now.level.now.form (row_on split.now.line k) (column_on split.now.line k) incumbent.old.cost)) }
     ensures recorded { IfOk result (Settles task.now.ground.now.instance.now task.now.ground.now.duals.now path.old split.now.level.now.form split.now.line k incumbent.new.cost (W.ends split.now.marks) (W.holds proof.old) (W.holds proof.new)) }
     ensures path { OnOk result (path.new ≡ path.old) }
     ensures incumbent { IsIncumbent task.now.ground.now.instance.now incumbent.new }
@@ -86,6 +89,7 @@ fn try_node<S: Stop, W: Record>(
     ensures recorded { IfOk result (λ closed. IsTrue closed → HasTree task.now.ground.now.instance.now task.now.ground.now.duals.now path.old level.old.form incumbent.new.cost (W.holds proof.old) (W.holds proof.new)) }
     ensures drawn { IfOk result (λ closed. closed ≡ false → IsDrawn level.old.form level.new.form level.new.u.items) }
     ensures left { IfOk result (λ closed. closed ≡ false → (t : List ℕ) → W.holds proof.old t → W.holds proof.new t) }
+    ensures within { IfOk result (λ closed. closed ≡ false → level.new.form.value ≤ℤ threshold_of task.now.ground.now.duals.now.scale task.now.ground.now.step incumbent.old.cost) }
     ensures path { OnOk result (path.new ≡ path.old) }
     ensures incumbent { IsIncumbent task.now.ground.now.instance.now incumbent.new }
     ensures no_worse { incumbent.new.cost ≤ℤ incumbent.old.cost }

@@ -26,7 +26,7 @@ prove_node-returns-then-branch-clause-recorded g t c = λ _.
     let mid = g.W.Record.holds c.pair_duals.new.self in
     let new = g.W.Record.holds c.closes_as_leaf.new.proof in
     let tree = subst (λ (y : Placement). HasTree I D y R cost mid new) at (c.in_ok-closes_as_leaf.ensures.recorded c.if-branch.true) in
-    HasProof-own I D s c.args.part.now.node.now R cost (g.W.Record.holds c.args.proof.now) mid new c.free-free.ensures.duals c.requires.duals (subst (λ (y : Placement). IsNode I D s y R) at c.in_ok-begin.ensures.node) c.in_ok-begin.ensures.start c.in_ok-pair_duals.ensures
+    HasProof-own I D s c.args.part.now.node.now R cost (g.W.Record.holds c.args.proof.now) mid new c.duals_law.ensures c.requires.duals (subst (λ (y : Placement). IsNode I D s y R) at c.in_ok-begin.ensures.node) c.in_ok-begin.ensures.start c.in_ok-pair_duals.ensures
     tree
 
 pub prove_node-prove_children-requires : goal.prove_node-prove_children-requires
@@ -57,7 +57,7 @@ prove_node-returns-clause-recorded g t c = λ done.
     let n = subst (λ (z : Placement). IsNode I D s z R) at c.in_ok-begin.ensures.node in
     let found = subst (λ (z : Placement). HasSplit I D z S u cost (g.W.Record.holds c.closes_as_leaf.new.proof) new) at (c.in_ok-is_done.ensures.recorded done) in
     let here = subst (λ p. HasSplit I D y S u cost (g.W.Record.holds p) new) (closes.left c.if-branch.false) found in
-    HasProof-own I D s y R cost old mid new c.free-free.ensures.duals c.requires.duals n c.in_ok-begin.ensures.start c.in_ok-pair_duals.ensures (HasTree-split I D s y R S u drawn.v cost mid new n drawn.count drawn.range drawn.line here)
+    HasProof-own I D s y R cost old mid new c.duals_law.ensures c.requires.duals n c.in_ok-begin.ensures.start c.in_ok-pair_duals.ensures (HasTree-split I D s y R S u drawn.v cost mid new n drawn.count drawn.range drawn.line here)
 
 pub prove_node-returns-clause-path : goal.prove_node-returns-clause-path
 prove_node-returns-clause-path g t c = c.in_ok-is_done.ensures.path ∙ c.in_ok-begin.ensures.path
@@ -200,3 +200,9 @@ prove_child-returns-clause-path g t c =
     let opened = opened_by c.args.part.now.task.now.ground.now.instance.now scale y (child_on y line c.args.k) c.try_child.new.incumbent.cost c.in_ok-tried.tried c.in-Some.child c.in-Some.is c.in_ok-tried.ensures.child in
     let is = c.in_ok-node.ensures.value ∙ sym (ap (λ (z : Placement). placing z c.in-Some.child.facility c.in-Some.child.location) c.requires.at) ∙ opened.is in
     back_at c.args.path.now c.in_ok-node.node c.prove_below.new.path c.pop.new.self (row_on line c.args.k) (column_on line c.args.k) c.in_ok-is_done.ensures.path is c.pop.ensures
+
+pub prove_child-returns-clause-no_worse : goal.prove_child-returns-clause-no_worse
+prove_child-returns-clause-no_worse g t c = let one = c.try_child.ensures.no_worse in let other = c.prove_below.ensures.no_worse in omega (arith, ints, one, other)
+
+pub prove_child-returns-in_err-is_done-clause-no_worse : goal.prove_child-returns-in_err-is_done-clause-no_worse
+prove_child-returns-in_err-is_done-clause-no_worse g t c = let one = c.try_child.ensures.no_worse in let other = c.prove_below.ensures.no_worse in omega (arith, ints, one, other)

@@ -7,6 +7,7 @@ use Rattle.subtree_search.specs.Images.{IsImage}
 use Rattle.subtree_search.specs.Lines.{child_on, column_on, row_on}
 use Rattle.subtree_search.specs.Opens.{Becomes}
 use Rattle.subtree_search.specs.Premises.{IsNode}
+use Rattle.subtree_search.proofs.Needing.{All-tried}
 use Rattle.subtree_search.proofs.Settling.{All-add, IsSettled-add, IsSettled-child, IsSettled-image, settled_all, settled_more}
 use Rattle.subtree_search.proofs.split.split_children.Goals as goal
 
@@ -24,6 +25,7 @@ loop-k-preserved-then-is_image g c =
       no_worse = kept.no_worse;
       path = kept.path;
       opened = kept.opened;
+      needed = kept.needed;
       settled = settled_more I y line c.loop-k.incumbent.cost c.loop-k.children.items c.loop-k.k kept.settled
           (IsSettled-image I c.args.task.now.ground.now.duals.now c.args.task.now.ground.now.step y R line c.loop-k.k c.loop-k.incumbent.cost c.loop-k.children.items c.requires.node c.in_ok-line.ensures.line below image kept.settled);
     }
@@ -46,6 +48,8 @@ loop-k-preserved g c =
       path = ensures.path ∙ kept.path;
       opened = All-add I s y (child_on y line c.loop-k.k) cost child old new
           (subst (λ (z : Placement). Becomes I s z (child_on z line c.loop-k.k) cost child) kept.path ensures.child) c.in_ok-add.ensures kept.opened;
+      needed = All-tried I c.args.task.now.ground.now.duals.now c.args.task.now.ground.now.step c.loop-k.path y c.args.level.now.form cost c.args.incumbent.now.cost c.loop-k.incumbent.cost child old new kept.path c.requires.lined ensures.no_worse kept.no_worse ensures.left c.in_ok-add.ensures
+          kept.needed;
       settled = settled_more I y line cost new c.loop-k.k (λ j below. IsSettled-add I y (child_on y line j) c.loop-k.incumbent.cost cost child old new c.in_ok-add.ensures ensures.no_worse (kept.settled j below))
           (IsSettled-child I s c.loop-k.path y line (row_on line c.loop-k.k) (column_on line c.loop-k.k) c.loop-k.k cost child old new kept.path refl refl ensures.child c.in_ok-add.ensures);
     }

@@ -1,9 +1,12 @@
 use Rattle.std.proofs.Common.{subst, arith}
+use Rattle.std.specs.Prelude.{All}
 use Rattle.std.proofs.lemmas.Int.{ints}
 use Rattle.qap_cost.specs.Placement.{Placement}
-use Rattle.subtree_search.specs.Opens.{IsSettled}
+use Rattle.subtree_search.specs.Needs.{NeedsTrial}
+use Rattle.subtree_search.specs.Opens.{IsOpen, IsSettled}
 use Rattle.proof_tree.proofs.Reaching.{IsNonNegative-line}
 use Rattle.subtree_search.proofs.Trees.{IsNode-drawn}
+use Rattle.subtree_search.proofs.Needing.{All-wider, IsLined-drawn}
 use Rattle.subtree_search.proofs.Settling.{IsSettled-closed}
 use Rattle.subtree_search.proofs.split.split_node.Goals as goal
 
@@ -22,3 +25,23 @@ split_children-requires-clause-node g c = let drawn = c.in_ok-closes.ensures.lef
 
 pub split_children-requires-clause-least : goal.split_children-requires-clause-least
 split_children-requires-clause-least g c = let drawn = c.in_ok-closes.ensures.left c.if-branch.false in IsNonNegative-line c.begin.new.level.form _ _ _ drawn.line
+
+pub split_children-requires-clause-lined : goal.split_children-requires-clause-lined
+split_children-requires-clause-lined g c =
+    let begun = c.in_ok-begin.ensures in
+    IsLined-drawn c.args.task.now.ground.now.instance.now c.args.task.now.ground.now.duals.now c.begin.new.path c.args.node.now c.begin.new.level.form c.closes.new.level.form c.closes.new.level.u.items begun.path begun.start (c.in_ok-closes.ensures.left c.if-branch.false)
+
+pub returns-clause-needed : goal.returns-clause-needed
+returns-clause-needed g c =
+    let I = c.args.task.now.ground.now.instance.now in
+    let D = c.args.task.now.ground.now.duals.now in
+    let s = c.args.task.now.ground.now.step in
+    let least = c.split_children.new.incumbent.cost in
+    let most = c.closes.new.incumbent.cost in
+    let children = c.in_ok-children.children.items in
+    let here = subst (λ (z : Placement). All (NeedsTrial I D s z least most) children) c.in_ok-begin.ensures.path c.in_ok-children.ensures.needed in
+    All-wider I D s c.args.node.now least most least c.args.incumbent.now.cost children (omega (arith, ints)) c.closes.ensures.no_worse here
+
+pub returns-clause-opened : goal.returns-clause-opened
+returns-clause-opened g c =
+    subst (λ (z : Placement). All (IsOpen c.args.task.now.ground.now.instance.now c.args.task.now.ground.now.duals.now.scale z) c.in_ok-children.children.items) c.in_ok-begin.ensures.path c.in_ok-children.ensures.opened

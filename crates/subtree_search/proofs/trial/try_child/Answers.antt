@@ -7,6 +7,7 @@ use Rattle.subtree_search.specs.Closed.{IsClosed}
 use Rattle.subtree_search.specs.Opens.{IsOpenAt}
 use Rattle.subtree_search.specs.Premises.{IsNode}
 use Rattle.subtree_search.proofs.Closings.{IsClosed-tree, IsClosed-trivially}
+use Rattle.subtree_search.proofs.Needing.{StaysOpen-child}
 use Rattle.subtree_search.proofs.Progress.{back_at, column_within, row_within}
 use Rattle.subtree_search.proofs.Trees.{HasKid-tree, HasKid-trivial, IsNode-drawn}
 use Rattle.subtree_search.proofs.Tries.{IsBegun-left, at_child}
@@ -117,7 +118,7 @@ returns-clause-child g c =
     let h = c.row-h.result in
     let l = c.column-g.result in
     let back = back_at y c.descend.new.path c.try_node.new.path c.pop-2.new.self h l c.in_ok-is_closed.ensures.path c.in_ok-descend.ensures.path c.pop-2.ensures in
-    let at = subst (λ (z : Placement). IsOpenAt I scale z (child_at z h l) c.open_child.result) back c.open_child.ensures in
+    let at = subst (λ (z : Placement). IsOpenAt I scale z (child_at z h l) c.open_child.result) back c.open_child.ensures.opened in
     subst (λ (x : Placement). IsOpenAt I scale y x c.open_child.result) (at_child y (child_at y h l) c.args.split.now.line c.args.k h l refl c.row-h.ensures c.column-g.ensures) at
 
 pub returns-clause-recorded : goal.returns-clause-recorded
@@ -127,3 +128,9 @@ returns-clause-recorded g c =
 
 pub returns-clause-path : goal.returns-clause-path
 returns-clause-path g c = back_at c.args.path.now c.descend.new.path c.try_node.new.path c.pop-2.new.self c.row-h.result c.column-g.result c.in_ok-is_closed.ensures.path c.in_ok-descend.ensures.path c.pop-2.ensures
+
+pub returns-clause-left : goal.returns-clause-left
+returns-clause-left g c =
+    StaysOpen-child c.args.task.now.ground.now.instance.now c.args.task.now.ground.now.duals.now c.args.task.now.ground.now.step c.args.split.now.level.now.form c.descend.new.next.form c.args.split.now.line c.args.k c.row-h.result c.column-g.result
+    c.args.incumbent.now.cost c.closes_at_once.new.incumbent.cost c.try_node.new.level.form.value c.open_child.result c.row-h.ensures c.column-g.ensures c.in_ok-descend.ensures.child (c.in_ok-closes_at_once.ensures.left c.if-branch.false)
+    c.open_child.ensures.value (c.in_ok-is_closed.ensures.within c.if-is_closed.false) c.closes_at_once.ensures.no_worse

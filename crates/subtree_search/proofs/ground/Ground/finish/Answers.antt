@@ -7,5 +7,5 @@ completion-requires c = whole_from_form _ _ _ _ _ c.requires.node c.requires.who
 
 pub returns-clause-closed : goal.returns-clause-closed
 returns-clause-closed c =
-    Reaches-whole c.args.self.now.instance.now c.args.self.now.duals.now c.args.self.now.step c.args.path.now c.args.level.now.form c.in_ok-candidate.candidate c.offer.new.self.cost c.requires.node c.free-free.ensures.duals.positive c.requires.whole
+    Reaches-whole c.args.self.now.instance.now c.args.self.now.duals.now c.args.self.now.step c.args.path.now c.args.level.now.form c.in_ok-candidate.candidate c.offer.new.self.cost c.requires.node c.duals_law.ensures.positive c.requires.whole
     c.in_ok-candidate.ensures c.offer.ensures.offered

@@ -4,8 +4,8 @@ use Rattle.std.specs.Int.{w128}
 use Rattle.subtree_search.proofs.Nodes.{IsOpenAt-child, facility_is, location_is}
 use Rattle.subtree_search.proofs.ground.Ground.open_child.Goals as goal
 
-pub returns : goal.returns
-returns c =
+pub returns-clause-opened : goal.returns-clause-opened
+returns-clause-opened c =
     let v = c.value.result in
     let passed : to_z w128 (of_z w128 v) ≡ v = omega (arith, ints) in
     let y = c.args.path.now in
@@ -18,3 +18,6 @@ returns c =
     IsOpenAt-child c.args.self.now.instance.now c.args.self.now.duals.now c.args.self.now.step y R c.args.next.now.form c.args.h c.args.g
     (record { facility = c.facility-facility.result; location = c.location-location.result; value = to_z w128 (of_z w128 v) })
     n c.requires.row c.requires.column f k (passed ∙ c.value.ensures.value) c.requires.next c.requires.least
+
+pub returns-clause-value : goal.returns-clause-value
+returns-clause-value c = (let v = c.value.result in let passed : to_z w128 (of_z w128 v) ≡ v = omega (arith, ints) in passed) ∙ c.value.ensures.value
