@@ -104,6 +104,20 @@ PLANS = [
      "there are 3 departments and 2 places: add places to their table, or take departments out of theirs"),
 ]
 
+# Names and files with control characters, as TOML spells them: messages show them escaped.
+TEXT = "write its text without line breaks, tabs and other control characters"
+NAMES = "write names without line breaks, tabs and other control characters"
+CONTROLS = [
+    ('flows = "f\\u001b.csv"\ndistances = \'d.csv\'\n', f'the key "flows" has the control character U+001B: {TEXT}'),
+    (f'{SOME_TRIPS}departments = ["Saw", "B\\ncost 0"]\n',
+     f'the key "departments[2]" has the control character U+000A: {NAMES}'),
+    (f'{MATRICES}[fixed]\n"Saw\\u0007" = "A"\n',
+     f'the key "fixed.Saw\\u{{7}}" has the control character U+0007: {NAMES}'),
+    (f'{MATRICES}[fixed]\nSaw = "A\\u0085"\n',
+     f'the key "fixed.Saw": the place\'s name has the control character U+0085: {NAMES}'),
+    ('"fl\\u001b[2Jows" = "a.csv"\n', f'the key "fl\\u{{1b}}[2Jows" is unknown: {KEYS}'),
+]
+
 # The line and the column of the texts above that are no TOML, counted from 1: where the value or the key that is at
 # fault stands.
 SYNTAX_PLACES = ["line 2, column 13", "line 1, column", "line 1, column", "line 2, column 1", "line 1, column 1"]
@@ -142,6 +156,10 @@ def cases():
             yield f"stderr: error: plan.toml: {message}"
         else:
             yield f"stderr matches: error: plan\\.toml: {next(places)}.*: .*: {SYNTAX}"
+    for number, (text, message) in enumerate(CONTROLS):
+        yield f"case: control character {number}"
+        yield "bytes plan.toml: " + text.replace("\\", "\\\\").replace("\n", "\\n")
+        yield f"run: qapplan solve plan.toml\nstatus: 1\nstderr: error: plan.toml: {message}"
     for number, (command, name) in enumerate(UNREADABLE):
         yield f"case: unreadable {number}: {command}\nfile plan.toml:\n    flows = 'f.csv'\n    distances = 'd.csv'"
         yield f"run: {command}\nstderr: error: {name}: {UNREAD}\nstatus: 1"
