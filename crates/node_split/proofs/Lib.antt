@@ -1,4 +1,2 @@
 mod Bounds
-mod Completions
 mod Exact
-mod Scatter

@@ -1,5 +1,4 @@
 pub mod Branch
-pub mod Completion
 pub mod Evaluation
 pub mod Parent
 pub mod Prepared

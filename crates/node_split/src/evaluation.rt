@@ -75,8 +75,8 @@ impl Evaluator {
     {
         self.rows.reduce_into(node, &mut made.matrix)?;
         self.solver.solve_into(&made.matrix, &mut made.assignment)?;
-        // Their clauses say that these are a matrix and a node.
-        let (_size, _depth) = (made.matrix.size(), node.depth());
+        made.matrix.matrix_law();
+        node.placement_law();
         let fixed = node.fixed_cost(self.rows.instance());
         made.value = fixed + dual_sum(&made.assignment.u, &made.assignment.v);
         Ok(())

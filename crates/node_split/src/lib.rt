@@ -3,7 +3,6 @@
 
 mod branch;
 mod children;
-mod completion;
 mod evaluation;
 mod node_split;
 mod parent;

@@ -15,12 +15,11 @@ ghost use Rattle.node_split.specs.Prepared.{IsPrepared};
 
 use crate::branch::{Branch, MarkLists, widest};
 use crate::children::{Split, split_children};
-use crate::completion::completed;
 use crate::evaluation::{Evaluation, Evaluator};
 use crate::parent::Parent;
 use assign_dual::Solver;
 use gilmore_lawler::{KeptRows, RankedInstance};
-use qap_cost::{Instance, Partial, Perm};
+use qap_cost::{Instance, Partial, Perm, completed};
 use qap_symmetry::Table;
 use std::alloc::{AllocError, Global};
 use std::marker::Model;
@@ -227,11 +226,12 @@ fn closes(
 {
     let matching = &here.assignment.matching;
     let candidate = completed(
-        alloc,
         parent.node,
         parent.facilities,
         parent.locations,
         matching,
+        &mut Vec::new(alloc),
+        Vec::new(alloc),
     )?;
     incumbent.offer(parent.instance, candidate);
     if here.matrix.size() <= 1 || here.value >= incumbent.cost() {

@@ -87,6 +87,13 @@ impl<N: Number> PairDuals<N> {
         self.size
     }
 
+    /// What all pair duals satisfy, for a proof that needs it. It costs nothing.
+    pub fn duals_law(&self)
+        ensures { AreDuals N.limits self.now }
+    {
+        let _ = &self.size;
+    }
+
     /// How many facilities, and locations, are free.
     pub fn free(&self) -> usize
         ensures value { result ≡ length self.now.facilities }

@@ -33,8 +33,7 @@ pub(crate) fn opening_space(
     ensures { IfOk result (IsOpening (part_of instance.now root.now start.now)) }
 {
     opening_law();
-    // Its clause says that this is an instance.
-    let _size = instance.size();
+    instance.instance_law();
     let open_node = Open {
         node: root.copy()?,
         value: LEAST_COST,

@@ -1,6 +1,6 @@
 //! A search by several workers, each in its own thread.
 
-ghost use Rattle.std.specs.Prelude.{◌≡◌, ◌<◌, ◌≤◌, [], IfOk, length, replicate, vec_capacity, vec_len};
+ghost use Rattle.std.specs.Prelude.{◌≡◌, ◌<◌, ◌≤◌, [], IfOk, length, vec_capacity, vec_len};
 ghost use Rattle.std.specs.Arc.{arc_value};
 ghost use Rattle.shared_space.specs.Limit.{IsWithin, is_reached};
 ghost use Rattle.shared_space.specs.Place.{place_of};
@@ -135,7 +135,7 @@ where
     let count = usize::from(crew.workers);
     let room = Vec::with_capacity(alloc, count)?;
     let nodes = node_template(alloc)?;
-    let (shared, shares) = shared_under::<L>(alloc, blank, space, count, crew.limit)?;
+    let (shared, shares) = Shared::<L>::within(alloc, blank, space, count, crew.limit)?;
     let seats = seats_for(alloc, task, crew, shares)?;
     let waiting = AtomicU64::new(0);
     let halt = AtomicBool::new(false);
@@ -157,33 +157,6 @@ where
     let shares = shares_of(room, seats);
     let (space, _) = shared.into_inner(shares);
     Ok(space)
-}
-
-/// The space under its lock and this limit, with a share for each worker.
-fn shared_under<L: Law>(
-    alloc: Global,
-    blank: Blank,
-    space: TxnSpace,
-    shares: usize,
-    limit: Option<u64>,
-) -> Result<(Shared<L>, Vec<Share<L>>), AllocError>
-    requires name { blank.name ≡ L.name }
-    requires parts { blank.parts ≡ L.parts }
-    requires shares { shares ≡ L.parts }
-    requires lawful { L.lawful (content_of space) space.commits }
-    requires fresh { space.commits ≡ 0 }
-    requires limit { L.limit ≡ limit }
-    requires reached { L.reached (place_of space shares 0 (is_reached limit 0)) }
-    ensures { IfOk result (λ made. made.1.items ≡ replicate shares 0) }
-{
-    let made = match limit {
-        Some(limit) => Shared::<L>::with_limit(alloc, blank, space, shares, limit),
-        None => Shared::<L>::new(alloc, blank, space, shares),
-    };
-    match made {
-        Ok(made) => Ok(made),
-        Err(_) => Err(AllocError),
-    }
 }
 
 /// A seat for each share, with a worker.

@@ -36,8 +36,7 @@ pub(crate) fn best_template(alloc: Global) -> Result<Template, AllocError>
 pub(crate) fn tuple_of_open(alloc: Global, open_node: &Open) -> Result<Tuple, AllocError>
     ensures { IfOk result (λ tuple. tuple ≡ node_tuple (open_of open_node.now)) }
 {
-    // Its clauses say that no more than 256 facilities are placed.
-    let _depth = open_node.node.depth();
+    open_node.node.placement_law();
     let name = Field::word(alloc, "node")?;
     let facilities = list_field(alloc, open_node.node.facilities())?;
     let places = list_field(alloc, open_node.node.places())?;
@@ -51,8 +50,7 @@ pub(crate) fn tuple_of_open(alloc: Global, open_node: &Open) -> Result<Tuple, Al
 pub(crate) fn tuple_of_best(alloc: Global, best: &Incumbent) -> Result<Tuple, AllocError>
     ensures { IfOk result (λ tuple. tuple ≡ best_tuple best.now) }
 {
-    // Its clause says that no more than 256 facilities have a location.
-    let _count = best.permutation().len();
+    best.permutation().permutation_law();
     let name = Field::word(alloc, "best")?;
     let list = list_field(alloc, best.permutation().locations())?;
     Tuple::of_three(alloc, [name, Field::Int(best.cost()), list])

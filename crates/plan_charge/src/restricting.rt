@@ -45,8 +45,7 @@ pub fn restrict(
         (DoesNotFit instance.now charges.now forbidden.now)
         (λ r. Restricts instance.now node.now charges.now forbidden.now r.instance r.node)) }
 {
-    // Its clause says that this is a placement.
-    let _size = node.size();
+    node.placement_law();
     let Some(raised) = forbid(alloc, instance, charges, forbidden)? else {
         return Ok(None);
     };

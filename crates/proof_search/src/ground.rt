@@ -68,8 +68,7 @@ impl Ground {
         ensures value { result.now ≡ self.now }
         ensures instance { IsInstance self.now }
     {
-        // Its clause says that this is an instance.
-        let _size = self.instance.size();
+        self.instance.instance_law();
         &self.instance
     }
 

@@ -114,8 +114,7 @@ pub fn write<W: Write>(
     ensures sent { OnOk result (Sends W.contents writer.old writer.new (text_of proof.now)) }
     ensures stopped { IfErr result (HasStopped W.contents writer.old writer.new (text_of proof.now)) }
 {
-    // Its clause says that this is a proof.
-    let _cost = proof.cost();
+    proof.proof_law();
     write_lines(alloc, writer, proof)?;
     finish(writer)?;
     Ok(())

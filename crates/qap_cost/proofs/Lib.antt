@@ -1,4 +1,5 @@
 pub mod Bijections
+pub mod Completions
 pub mod Listings
 pub mod MarkTables
 pub mod Matrices
@@ -7,5 +8,6 @@ pub mod Objectives
 pub mod Orders
 pub mod Picks
 pub mod Placements
+pub mod Scatter
 pub mod Seen
 pub mod Sums

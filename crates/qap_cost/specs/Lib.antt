@@ -1,4 +1,5 @@
 pub mod Bijection
+pub mod Completion
 pub mod Fault
 pub mod Instance
 pub mod Limits

@@ -73,6 +73,13 @@ impl Instance {
         self.size
     }
 
+    /// What every instance satisfies, for a proof that needs it. It costs nothing.
+    pub fn instance_law(&self)
+        ensures { IsInstance self.now }
+    {
+        let _ = &self.size;
+    }
+
     /// Row `i`, column `j` of A.
     pub fn a(&self, i: usize, j: usize) -> i64
         requires row { i < self.now.size }

@@ -1,6 +1,7 @@
 //! Instances of the quadratic assignment problem, permutations, and the cost of a permutation.
 #![tactic(auto)]
 
+mod completion;
 mod error;
 mod free;
 mod instance;
@@ -12,6 +13,7 @@ mod partial;
 mod permutation;
 mod placement;
 
+pub use completion::completed;
 pub use error::CostError;
 pub use free::list_free;
 pub use instance::{Instance, MAX_ENTRY, MAX_SIZE, MAX_VALUE};

@@ -74,6 +74,13 @@ impl Matrix {
         self.size
     }
 
+    /// What every matrix satisfies, for a proof that needs it. It costs nothing.
+    pub fn matrix_law(&self)
+        ensures { IsMatrix self.now }
+    {
+        let _ = &self.size;
+    }
+
     /// All entries, listed by rows.
     pub fn entries(&self) -> &[i128]
         ensures { result.now ≡ self.now.entries }

@@ -53,6 +53,13 @@ impl Partial {
         self.size
     }
 
+    /// What every placement satisfies, for a proof that needs it. It costs nothing.
+    pub fn placement_law(&self)
+        ensures { IsPlacement self.now }
+    {
+        let _ = &self.size;
+    }
+
     /// How many facilities are placed.
     pub fn depth(&self) -> usize
         ensures value { result ≡ length self.now.facilities }

@@ -47,6 +47,13 @@ impl Perm {
         self.locations.len()
     }
 
+    /// What every permutation satisfies, for a proof that needs it. It costs nothing.
+    pub fn permutation_law(&self)
+        ensures { IsPerm self.now }
+    {
+        let _ = &self.locations;
+    }
+
     /// The location of facility `i`.
     pub fn at(&self, i: usize) -> u16
         requires { i < length self.now }

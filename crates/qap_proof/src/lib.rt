@@ -36,7 +36,7 @@ pub use acceptance::{Verdict, accept};
 pub use checking::check;
 pub use cover::Cover;
 pub use error::ProofError;
-pub use image::{stay, takes_facility, takes_location};
+pub use image::{keeps_distances, keeps_flows, stay, takes_facility, takes_location};
 pub use law::{fault_law, proof_law, proof_text_law, tree_law};
 pub use leaf::Leaf;
 pub use missing::{MissingPart, missing_parts};

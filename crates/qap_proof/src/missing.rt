@@ -37,8 +37,7 @@ pub fn missing_parts(
     ensures missing { IfOk result (λ v. AreMissing instance.now proof.now v.items) }
     ensures enough { IfOk result (λ v. All (IsMissingBounded instance.now proof.now.cost) v.items → NoneCompletesForLess instance.now proof.now.root proof.now.cost) }
 {
-    // Its clause says that this is a proof.
-    let _cost = proof.cost();
+    proof.proof_law();
     let ranked = RankedInstance::new(alloc, instance)?;
     let leaves = proof_leaves(alloc, &ranked, proof)?;
     let mut parts = short_leaves(alloc, &leaves, proof)?;

@@ -91,6 +91,13 @@ impl Proof {
         self.cost
     }
 
+    /// What every proof satisfies, for a contract that needs it. It costs nothing.
+    pub fn proof_law(&self)
+        ensures { IsProof self.now }
+    {
+        let _ = &self.cost;
+    }
+
     /// The claimed lower bound on the permutations that complete the root: from -10^24 to the cost.
     pub fn bound(&self) -> i128
         ensures value { result ≡ self.now.bound }

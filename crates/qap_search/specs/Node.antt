@@ -1,5 +1,5 @@
 -- A node of the search.
-pub mod Completion
 pub mod Decision
+pub mod Free
 pub mod NodeList
 pub mod Thought

@@ -1,7 +1,6 @@
 //! A node of the search, its evaluation, and the decision made there.
 
 pub(crate) mod branching;
-pub(crate) mod completion;
 pub(crate) mod decision;
 pub(crate) mod node_list;
 pub(crate) mod scratch;

@@ -177,8 +177,7 @@ fn put_proof<W: Write>(
         (Stops W.contents writer.old writer.new text) }
 {
     certified_law();
-    // Its clause says that this is an instance.
-    let _size = instance.size();
+    instance.instance_law();
     put_certificate(alloc, writer, certificate)
 }
 
@@ -197,8 +196,7 @@ fn put_stopped<W: Write>(
         (Stops W.contents writer.old writer.new text) }
 {
     certified_law();
-    // Its clause says that this is an instance.
-    let _size = instance.size();
+    instance.instance_law();
     if cert {
         put_certificate(alloc, writer, certificate)
     } else {

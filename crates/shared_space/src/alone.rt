@@ -163,8 +163,7 @@ impl<L: Law> Alone<L> {
             closed: _,
             spent: _,
         } = self;
-        // Its clause says that the commits are few, so that their sum fits.
-        let _commits = space.commits();
+        space.commits_law();
         let counted = gathered(book, shares);
         (space, counted)
     }
@@ -205,8 +204,7 @@ impl<L: Law> Room<L> for Alone<L> {
         };
         keep(&mut self.spent, spent);
         self.book.audit(&mut share.part);
-        // Its clause says that the commits are few, so that the share can count one more.
-        let _commits = self.space.commits();
+        self.space.commits_law();
         self.book.add(&mut share.part, 1);
         share.count += 1;
         Ok(())

@@ -88,6 +88,29 @@ impl<L: Law> Shared<L> {
         Self::under_limit(alloc, blank, space, shares, Some(limit))
     }
 
+    /// The same under a law that may set a limit. Where memory runs out, the space is dropped.
+    pub fn within(
+        alloc: Global,
+        blank: Blank,
+        space: TxnSpace,
+        shares: usize,
+        limit: Option<u64>,
+    ) -> Result<(Shared<L>, Vec<Share<L>>), AllocError>
+        requires name { blank.name ≡ L.name }
+        requires parts { blank.parts ≡ L.parts }
+        requires shares { shares ≡ L.parts }
+        requires lawful { L.lawful (content_of space) space.commits }
+        requires fresh { space.commits ≡ 0 }
+        requires limit { L.limit ≡ limit }
+        requires reached { L.reached (place_of space shares 0 (is_reached limit 0)) }
+        ensures { IfOk result (λ made. made.1.items ≡ replicate shares 0) }
+    {
+        match Self::under_limit(alloc, blank, space, shares, limit) {
+            Ok(made) => Ok(made),
+            Err(_) => Err(AllocError),
+        }
+    }
+
     fn under_limit(
         alloc: Global,
         blank: Blank,

@@ -84,6 +84,13 @@ impl TxnSpace {
         self.commits
     }
 
+    /// How many commits there are at most, for a proof that needs it. It costs nothing.
+    pub fn commits_law(&self)
+        ensures { self.now.commits ≤ most }
+    {
+        let _ = &self.commits;
+    }
+
     /// Writes a tuple, outside all transactions. Refusals: 33, 50; the tuple is returned.
     pub fn out(&mut self, tuple: Tuple, lease: Lease) -> Result<EntryId, (SpaceError, Tuple)>
         ensures step { space.Step self.old.space (space.out tuple lease) (space.out_reply result) self.new.space }

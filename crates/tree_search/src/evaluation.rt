@@ -85,8 +85,7 @@ pub(crate) fn evaluate(
     ensures same { rows.new ≡ rows.old }
 {
     let matrix = rows.reduced(node)?;
-    // Its clause says that this is a matrix.
-    let _size = matrix.size();
+    matrix.matrix_law();
     let Assignment { matching, u, v } = solver.solve(alloc, &matrix)?;
     let facilities = node.free_facilities()?;
     let locations = node.free_locations()?;

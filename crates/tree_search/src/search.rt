@@ -171,8 +171,7 @@ fn child_node(node: &Partial, split: &SplitLine, other: u16) -> Result<Option<Pa
     };
     if usize::from(facility) < node.size() && !node.is_placed(facility) && node.is_free(location) {
         let child = node.place(facility, location)?;
-        // Its clause says that no more are placed than there are.
-        let _depth = child.depth();
+        child.placement_law();
         Ok(Some(child))
     } else {
         Ok(None)

@@ -278,6 +278,112 @@ fn empty_places_close_up(rt: HostRuntime) -> Result<(), Fail> {
     Ok(())
 }
 
+/// The template of `job` and this second field.
+fn job_with(alloc: Global, second: Field) -> Result<Template, Fail> {
+    let mut patterns = Vec::new(alloc);
+    patterns.push(Pattern::Is(Field::Word(String::from_str(alloc, "job")?)))?;
+    patterns.push(Pattern::Is(second))?;
+    Ok(Template::new(patterns)?)
+}
+
+/// Puts out the tuple `job a`.
+fn put_named(alloc: Global, space: &mut Space) -> Result<EntryId, Fail> {
+    let mut fields = Vec::new(alloc);
+    fields.push(Field::Word(String::from_str(alloc, "job")?))?;
+    fields.push(Field::Word(String::from_str(alloc, "a")?))?;
+    Ok(space.out(Tuple::new(fields)?, Lease::Forever)?)
+}
+
+/// Jobs by number, and the numbers of their entries. The first three are equal modulo 2^64 but for the sign, the fourth
+/// differs from the first by 256, and the last is the byte of `a`.
+static ALIKE: [(i128, u64); 5] = [(5, 1), (5 + (1 << 64), 2), (-5, 3), (261, 4), (97, 5)];
+
+/// Asserts that a job is taken once by its number, and once more after it was put out again.
+fn assert_taken_by_number(
+    rt: &impl Abort,
+    alloc: Global,
+    space: &mut Space,
+    number: i128,
+    entry: u64,
+) -> Result<(), Fail> {
+    let template = job_with(alloc, Field::Int(number))?;
+    assert_eq!(rt; taken(space, &template), Some(entry));
+    assert_eq!(rt; taken(space, &template), None);
+    let again = put(alloc, space, number, Lease::Forever)?;
+    assert_eq!(rt; taken(space, &template), Some(again.number()));
+    Ok(())
+}
+
+// A template with a second field finds the tuple that has it, and none with another of the same value.
+#[test]
+fn second_fields_are_told_apart(rt: HostRuntime) -> Result<(), Fail> {
+    let alloc = rt.alloc();
+    let mut space = Space::new(alloc);
+    for (number, _) in ALIKE {
+        put(alloc, &mut space, number, Lease::Forever)?;
+    }
+    let named = put_named(alloc, &mut space)?;
+    for (number, entry) in ALIKE {
+        assert_taken_by_number(&rt, alloc, &mut space, number, entry)?;
+    }
+    let template = job_with(alloc, Field::Word(String::from_str(alloc, "a")?))?;
+    assert_eq!(rt; taken(&mut space, &template), Some(named.number()));
+    assert_eq!(rt; space.count(&any_job(alloc)?), 0);
+    Ok(())
+}
+
+/// Puts out ten jobs, one of whose leases ends at each moment from 1 to 10.
+fn put_leased(alloc: Global, space: &mut Space) -> Result<(), Fail> {
+    for number in 0..10u64 {
+        put(alloc, space, i128::from(number), Lease::Ms(number + 1))?;
+    }
+    Ok(())
+}
+
+/// Asserts how many jobs are left, and which is the newest.
+fn assert_left(
+    rt: &impl Abort,
+    space: &Space,
+    jobs: &Template,
+    left: usize,
+    newest: Option<i128>,
+) -> Result<(), Fail> {
+    assert_eq!(rt; space.count_of_class("job", 2, 0), left);
+    assert_eq!(rt; space.count(jobs), left as u64);
+    assert_eq!(rt; read(space, jobs)?, newest);
+    Ok(())
+}
+
+/// Moments, and how many of these jobs are then left.
+static ENDS: [(u64, usize); 5] = [(1, 9), (2, 8), (4, 6), (5, 5), (6, 4)];
+
+/// Asserts which jobs are left while leases end, and after one between the others is taken.
+fn assert_ends(
+    rt: &impl Abort,
+    space: &mut Space,
+    jobs: &Template,
+    eighth: &Template,
+) -> Result<(), Fail> {
+    for (moment, left) in ENDS {
+        assert_eq!(rt; space.advance(moment), Ok(()));
+        assert_left(rt, space, jobs, left, Some(9))?;
+    }
+    assert_eq!(rt; taken(space, eighth), Some(8));
+    assert_left(rt, space, jobs, 3, Some(9))?;
+    assert_eq!(rt; space.advance(10), Ok(()));
+    assert_left(rt, space, jobs, 0, None)
+}
+
+// Leases end one after another, the oldest first; a job between those that are left is still found and taken.
+#[test]
+fn oldest_leases_end_first(rt: HostRuntime) -> Result<(), Fail> {
+    let alloc = rt.alloc();
+    let mut space = Space::new(alloc);
+    put_leased(alloc, &mut space)?;
+    let eighth = job_with(alloc, Field::Int(7))?;
+    assert_ends(&rt, &mut space, &any_job(alloc)?, &eighth)
+}
+
 /// 2^62 is given out, and nothing after it: the tuple is returned.
 #[test]
 fn last_number(rt: HostRuntime) -> Result<(), Fail> {

@@ -1,13 +1,13 @@
 -- The evaluation of a node: duals that fit its Gilmore-Lawler matrix and whose sum an assignment reaches, the permutation that
 -- completes the node by that assignment, and a facility to split it on.
 use Rattle.std.specs.Prelude.{◌≡◌, ◌-◌, ℕ, ℤ, List, length, ◌+ℤ◌, MatchOption, Option}
+use Rattle.qap_cost.specs.Completion.{IsCompletion}
 use Rattle.qap_cost.specs.Instance.{Problem}
 use Rattle.qap_cost.specs.Matrix.{Square, Assigns, DualsFit, IsMatrix, assignment_cost, dual_value}
 use Rattle.qap_cost.specs.Objective.{Permutes, cost_of}
 use Rattle.qap_cost.specs.Placement.{Placement, IsFreeFacility, fixed_cost_of}
 use Rattle.gilmore_lawler.specs.ReducedMatrix.{IsReduced}
 use Rattle.gilmore_lawler.specs.Closing.{AreDuals}
-use Rattle.qap_search.specs.Node.Completion.{IsCompletion}
 use Rattle.qap_search.specs.Law.Replacement.{Best}
 use Rattle.qap_search.specs.declared.node.thought.Thought.{Thought}
 

@@ -53,8 +53,7 @@ impl Closing {
         ensures node { self.new.node ≡ self.old.node }
     {
         instance.reduce_into(&mut self.workspace, &self.node, &mut self.matrix)?;
-        // Its clause says that this is a matrix.
-        let _size = self.matrix.size();
+        self.matrix.matrix_law();
         self.solver.solve_into(&self.matrix, &mut self.answer)?;
         Ok(())
     }

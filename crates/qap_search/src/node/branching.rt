@@ -4,7 +4,8 @@ ghost use Rattle.std.specs.Prelude.{◌≡◌, ◌<◌, ℕ, MatchOption, length
 ghost use Rattle.qap_cost.specs.Placement.{IsFreeFacility};
 ghost use Rattle.qap_cost.specs.Range.{AllLimited};
 ghost use Rattle.gilmore_lawler.specs.Closing.{AreDuals};
-ghost use Rattle.qap_search.specs.Node.Completion.{IsFreeOf, IsMatching};
+ghost use Rattle.qap_cost.specs.Completion.{IsMatching};
+ghost use Rattle.qap_search.specs.Node.Free.{IsFreeOf};
 
 use qap_cost::Partial;
 
@@ -29,8 +30,7 @@ pub(crate) fn branch_of(
     requires duals { AreDuals (length matching.now) u.now v.now }
     ensures { MatchOption result (length node.now.facilities ≡ node.now.size) (IsFreeFacility node.now) }
 {
-    // Its clause says that this is a node.
-    let _size = node.size();
+    node.placement_law();
     if matching.is_empty() {
         return None;
     }

@@ -94,8 +94,7 @@ fn free_location(node: &Partial, number: i128) -> Option<u16>
         ((k : ℕ) → IsFreeLocation node.now k → number ≢ pos k)
         (λ k. IsFreeLocation node.now k × (number ≡ pos k)) }
 {
-    // Its clause says that this is a node.
-    let _size = node.size();
+    node.placement_law();
     let Ok(location) = u16::try_from(number) else {
         return None;
     };

@@ -6,11 +6,10 @@ ghost use Rattle.gilmore_lawler.specs.ReducedMatrix.{IsReduced};
 ghost use Rattle.qap_search.specs.Node.Thought.{IsThought};
 
 use crate::node::branching::{Free, branch_of};
-use crate::node::completion::completed;
 use crate::node::thought::Thought;
 use assign_dual::{Assignment, Solver};
 use gilmore_lawler::dual_sum;
-use qap_cost::{Instance, Matrix, Partial, cost};
+use qap_cost::{Instance, Matrix, Partial, completed, cost};
 use std::alloc::{AllocError, Global};
 use std::mem::replace;
 
@@ -53,8 +52,7 @@ impl Scratch {
         requires bounded { AllWithin (512 * 10 ^ 18) matrix.now.entries }
         ensures { IfOk result (IsThought instance.now node.now) }
     {
-        // Its clause says that this is a matrix.
-        let _size = matrix.size();
+        matrix.matrix_law();
         let mut answer = replace(&mut self.answer, Assignment::with_room(alloc, 0)?);
         self.solver.solve_into(matrix, &mut answer)?;
         let Assignment { matching, u, v } = answer;
@@ -65,7 +63,14 @@ impl Scratch {
             locations: &self.locations,
         };
         let memory = replace(&mut self.candidate, Vec::new(alloc));
-        let candidate = completed(node, &free, &matching, &mut self.matched, memory)?;
+        let candidate = completed(
+            node,
+            free.facilities,
+            free.locations,
+            &matching,
+            &mut self.matched,
+            memory,
+        )?;
         let cost = cost(instance, &candidate);
         let value = node.fixed_cost(instance) + dual_sum(&u, &v);
         let branch = branch_of(node, &free, &matching, &u, &v);

@@ -147,8 +147,7 @@ fn closed<K: Closers>(
         CertifiesStopped instance.now commits c × (c.cost ≤ℤ known.cost)) }
 {
     stopped_law();
-    // Its clause says that this is an instance.
-    let _size = instance.size();
+    instance.instance_law();
     match assemble_stopped_by(closers, alloc, instance, tuples) {
         Ok(certificate) => Ok(certificate),
         Err(AssembleError::OutOfMemory) => Err(AllocError),

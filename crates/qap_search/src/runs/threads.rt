@@ -1,6 +1,6 @@
 //! A search by several workers, each in its own thread.
 
-ghost use Rattle.std.specs.Prelude.{◌≡◌, ◌<◌, ◌≤◌, [], All, IfOk, MatchResult, ℕ, length, replicate, sum, vec_capacity, vec_len};
+ghost use Rattle.std.specs.Prelude.{◌≡◌, ◌<◌, ◌≤◌, [], All, IfOk, MatchResult, ℕ, length, sum, vec_capacity, vec_len};
 ghost use Rattle.std.specs.List.{sum_by};
 ghost use Rattle.qap_search.specs.Runs.Answer.{IsAnswer, IsLeastAnswer, IsSolveFault, accepted_of};
 ghost use Rattle.qap_search.specs.Runs.Outcome.{IsEnded};
@@ -222,7 +222,7 @@ fn staff<L: Law>(
 {
     let ranked = shared_rows(alloc, instance)?;
     let workers = usize::from(crew.workers);
-    let (shared, shares) = shared_under::<L>(alloc, blank, space, workers, crew.limit)?;
+    let (shared, shares) = Shared::<L>::within(alloc, blank, space, workers, crew.limit)?;
     let seats = seats_for(alloc, &ranked, crew, shares)?;
     Ok(Staffed { shared, seats })
 }
@@ -262,33 +262,6 @@ where
     let Left { shares, reports } = left_by(room, seats);
     let (space, _) = shared.into_inner(shares);
     Run { space, reports }
-}
-
-/// The space with its lock and its limit, if there is one, and this many shares.
-fn shared_under<L: Law>(
-    alloc: Global,
-    blank: Blank,
-    space: TxnSpace,
-    shares: usize,
-    limit: Option<u64>,
-) -> Result<(Shared<L>, Vec<Share<L>>), AllocError>
-    requires name { blank.name ≡ L.name }
-    requires parts { blank.parts ≡ L.parts }
-    requires shares { shares ≡ L.parts }
-    requires lawful { L.lawful (content_of space) space.commits }
-    requires fresh { space.commits ≡ 0 }
-    requires limit { L.limit ≡ limit }
-    requires reached { L.reached (place_of space shares 0 (is_reached limit 0)) }
-    ensures { IfOk result (λ made. made.1.items ≡ replicate shares 0) }
-{
-    let made = match limit {
-        Some(limit) => Shared::<L>::with_limit(alloc, blank, space, shares, limit),
-        None => Shared::<L>::new(alloc, blank, space, shares),
-    };
-    match made {
-        Ok(made) => Ok(made),
-        Err(_) => Err(AllocError),
-    }
 }
 
 /// A seat for each share, the workers numbered from 0.

@@ -64,8 +64,7 @@ impl Hand {
         ensures accepted { IfOk result (λ hand. hand.accepted ≡ 0) }
         ensures value { IfOk result (λ hand. hand ≡ new_hand (arc_value instance) lease_ms) }
     {
-        // Its clause says that this is an instance.
-        let _instance = instance.instance();
+        instance.instance().instance_law();
         let desk = Desk::new(alloc)?;
         let tools = Tools {
             alloc,

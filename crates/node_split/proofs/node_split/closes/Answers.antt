@@ -14,7 +14,7 @@ returns-then-size-le1-clause-closed c = λ _.
     elim c.then-size-le1.branch [
       | then-size-le1-via-then-size-le1 w ↦
           let few = w.if-size-le1.true in
-          IsClosed-few I x c.in_ok-candidate.candidate c.offer.new.self.cost parent.placement (omega (arith, few, c.size.ensures.value, evaluated.reduced.size)) c.in_ok-candidate.ensures c.offer.ensures.offered
+          IsClosed-few I x c.in_ok-candidate.candidate c.offer.new.self.cost parent.placement (omega (arith, few, c.size.ensures.value, evaluated.reduced.size)) c.in_ok-candidate.ensures.completes c.offer.ensures.offered
       | then-size-le1-via-else-size-le1+then-here-cost w ↦
           let most = w.if-here-cost.true in
           let cost = w.cost.ensures.value in

@@ -12,7 +12,7 @@ returns c =
     let root = c.args.root.now in
     let copy = c.in_ok-copy.ensures {u = tt} in
     let least : ℤ = negsuc 65535999999999999999999 in
-    let closed : IsClosed I root least = root_closed I root c.size-size.ensures.instance c.requires.same_size in
+    let closed : IsClosed I root least = root_closed I root c.instance_law.ensures c.requires.same_size in
     let node : c.in_ok-node.node ≡ node_tuple (record { node = root; value = least }) =
     (c.in_ok-node.ensures {u = tt}) ∙ ap (λ (x : Placement). node_tuple (record { node = x; value = least })) copy.value in
     rw (c.in_ok-put_forever-2.ensures {u = tt}, c.in_ok-put_forever.ensures {u = tt}, c.new-space.ensures, node, c.in_ok-best.ensures {u = tt})

@@ -9,6 +9,6 @@ returns c =
       forbids = forbids;
       extended = c.in_ok-larger.ensures;
       node = c.in_ok-node.ensures.extended;
-      placement = c.size-size.ensures.placement;
+      placement = c.placement_law.ensures;
       size = c.requires.size;
     }

@@ -17,7 +17,7 @@ returns-clause-missing c =
     let I = c.args.instance.now in
     let C = c.args.proof.now in
     let ls = c.in_ok-leaves.leaves.items in
-    let size : C.root.size ≡ I.size = c.cost-cost.ensures.proof.root.size ∙ c.requires.same_size in
+    let size : C.root.size ≡ I.size = c.proof_law.ensures.root.size ∙ c.requires.same_size in
     let listed : ListsMissing I.size C.cost ls c.in_ok-parts.parts.items =
     subst (λ (n : ℕ). ListsMissing n C.cost ls c.in_ok-parts.parts.items) size
     (subst (λ (xs : List Leaf). ListsMissing C.root.size C.cost xs c.in_ok-parts.parts.items) c.deref.ensures.value c.in_ok-parts.ensures) in
@@ -29,4 +29,4 @@ returns-clause-missing c =
     }
 
 pub returns-clause-enough : goal.returns-clause-enough
-returns-clause-enough c = enough c.args.instance.now c.args.proof.now c.put_in_order.new.parts.items c.cost-cost.ensures.proof c.requires (returns-clause-missing c)
+returns-clause-enough c = enough c.args.instance.now c.args.proof.now c.put_in_order.new.parts.items c.proof_law.ensures c.requires (returns-clause-missing c)

@@ -11,7 +11,7 @@ pub returns-then-cert : goal.returns-then-cert
 returns-then-cert g c = λ nodes stopped.
     let I = c.args.instance.now in
     let C = c.args.certificate.now in
-    let none = c.certified_law.ensures.bound I C c.size-size.ensures.instance stopped.certified in
+    let none = c.certified_law.ensures.bound I C c.instance_law.ensures stopped.certified in
     let text = certificate_text Second C in
     (text, subst (λ (b : Bool). IsStoppedOutput b I nodes text) (sym c.if-cert.true) (gap_proof_text I nodes C stopped none), c.put_certificate.ensures)
 
@@ -19,6 +19,6 @@ pub returns-else-cert : goal.returns-else-cert
 returns-else-cert g c = λ nodes stopped.
     let I = c.args.instance.now in
     let C = c.args.certificate.now in
-    let none = c.certified_law.ensures.bound I C c.size-size.ensures.instance stopped.certified in
+    let none = c.certified_law.ensures.bound I C c.instance_law.ensures stopped.certified in
     let text = gap_line C.bound C.cost ++ solution_text C.cost C.permutation in
     (text, subst (λ (b : Bool). IsStoppedOutput b I nodes text) (sym c.if-cert.false) (gap_text I nodes C stopped none), c.put_gap.ensures)

@@ -20,7 +20,7 @@ returns-clause-evaluated c =
     let same : c.instance.result.now ≡ c.args.self.now.rows = c.instance.ensures.value ∙ made.same in
     let fixed_is = fixed.value ∙ ap (λ (I : Problem). fixed_cost_of I c.args.node.now) same in
     record {
-      square = c.size-size.ensures.matrix;
+      square = c.matrix_law.ensures;
       reduced = made.reduced;
       least = least;
       value = sum ∙ ap₂ ◌+ℤ◌ fixed_is duals_is;

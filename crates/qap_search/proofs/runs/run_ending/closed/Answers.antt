@@ -8,7 +8,7 @@ unreachable-requires-in-Err-NotATree g c =
     let tuples = c.args.tuples.items in
     let fault : IsNotStopped I tuples = subst (IsStoppedFault I tuples) c.in-Err-NotATree.field-0-is (c.in-Err-NotATree.ensures {u = tt}) in
     let tree = c.requires.tree in
-    c.stopped_law.ensures.not_refused I tree.0 tuples tree.1 c.size-size.ensures.instance tree.2 fault
+    c.stopped_law.ensures.not_refused I tree.0 tuples tree.1 c.instance_law.ensures tree.2 fault
 
 pub returns-in-Ok : goal.returns-in-Ok
 returns-in-Ok g c = λ known commits tree.

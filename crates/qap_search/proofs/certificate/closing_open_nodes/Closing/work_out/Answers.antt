@@ -13,7 +13,7 @@ returns-clause-duals c =
     let v = c.solve_into.new.answer.v.items in
     record {
       matrix = M;
-      square = c.size-size.ensures.matrix;
+      square = c.matrix_law.ensures;
       reduced = reduced.reduced;
       duals =
           duals_of I x M u v c.requires.placement reduced.reduced a.fits

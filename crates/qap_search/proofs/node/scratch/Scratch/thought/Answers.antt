@@ -4,7 +4,7 @@ use Rattle.std.proofs.lemmas.Int.{fits_signed_from_abs, ints}
 use Rattle.gilmore_lawler.specs.Closing.{AreDuals}
 use Rattle.qap_cost.specs.Matrix.{dual_value}
 use Rattle.qap_cost.specs.Placement.{ListsFree}
-use Rattle.qap_search.specs.Node.Completion.{IsCompletion, IsMatching}
+use Rattle.qap_cost.specs.Completion.{IsCompletion, IsMatching}
 use Rattle.qap_search.proofs.NodeLemmas.Thoughts.{duals_of, within_more}
 use Rattle.qap_search.proofs.node.scratch.Scratch.thought.Goals as goal
 
@@ -59,16 +59,16 @@ returns c =
     c.dual_sum.ensures.value ∙ ap₂ dual_value c.deref-4.ensures.value c.deref-5.ensures.value in
     record {
       matrix = M;
-      square = c.size-size.ensures.matrix;
+      square = c.matrix_law.ensures;
       reduced = c.requires.reduced;
-      duals = duals_of I x M answer.u.items answer.v.items done.placement c.requires.reduced a.fits (within_more _ _ _ (omega arith) (a.u_range _ c.requires.bounded)) (within_more _ _ _ (omega arith) (a.v_range _ c.requires.bounded));
+      duals = duals_of I x M answer.u.items answer.v.items c.in_ok-list_free_facilities.ensures.placement c.requires.reduced a.fits (within_more _ _ _ (omega arith) (a.u_range _ c.requires.bounded)) (within_more _ _ _ (omega arith) (a.v_range _ c.requires.bounded));
       fits = a.fits;
       matching = answer.matching.items;
       assigns = a.assigns;
       reached = a.equal;
       value = omega (arith, ints, duals, c.dual_sum.ensures.bounded, c.fixed_cost.ensures.value, c.fixed_cost.ensures.bounded);
       completes = completes;
-      permutes = record { bijection = done.permutation.bijection; same_size = completes.same_size ∙ sym c.requires.same_size };
+      permutes = record { bijection = done.completes.bijection; same_size = completes.same_size ∙ sym c.requires.same_size };
       costs = omega (arith, ints, c.cost-cost.ensures.value, c.cost-cost.ensures.bounded);
       branch = c.branch_of-branch.ensures;
     }

@@ -8,7 +8,7 @@ use Rattle.qap_cost.proofs.Picks.{any_from_place, place_from_any}
 use Rattle.qap_cost.proofs.Placements.{ListsFree-free_below}
 use Rattle.qap_cost.specs.Bijection.{AreDifferent, IsPerm}
 use Rattle.qap_cost.specs.Placement.{Placement, IsPlacement, ListsFree, Completes, free_facilities, free_locations}
-use Rattle.node_split.specs.Completion.{IsCompletion, IsMatching, Puts}
+use Rattle.qap_cost.specs.Completion.{IsCompletion, IsMatching, Puts}
 
 -- free numbers in a list are different
 pub different_listed : (n : ℕ) (taken free : List ℕ) → ListsFree n taken free → AreDifferent n free

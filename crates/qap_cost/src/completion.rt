@@ -2,37 +2,42 @@
 
 ghost use Rattle.std.specs.Prelude.{◌≡◌, ◌<◌, ℕ, IfOk, OnOk, length, map, slice_index};
 ghost use Rattle.qap_cost.specs.Bijection.{AreDifferent, IsPerm};
+ghost use Rattle.qap_cost.specs.Completion.{IsCompletion, IsMatching, Puts};
 ghost use Rattle.qap_cost.specs.Placement.{Completes, free_facilities, free_locations};
-ghost use Rattle.node_split.specs.Completion.{IsCompletion, IsMatching, Puts};
 
-use qap_cost::{Partial, Perm};
-use std::alloc::{AllocError, Global};
+use crate::partial::Partial;
+use crate::permutation::Perm;
+use std::alloc::AllocError;
 
 /// The permutation that leaves the placed facilities at their locations, and puts the `r`-th free facility at the free
-/// location of number `matching[r]`. The free facilities and locations are ascending.
-pub(crate) fn completed(
-    alloc: Global,
+/// location of number `matching[r]`. The free facilities and locations are ascending. The locations of the free
+/// facilities are written to `matched`, and the permutation's to `memory`.
+pub fn completed(
     node: &Partial,
     facilities: &[u16],
     locations: &[u16],
     matching: &[u16],
+    matched: &mut Vec<u16>,
+    memory: Vec<u16>,
 ) -> Result<Perm, AllocError>
     requires facilities { facilities.now ≡ free_facilities node.now }
     requires locations { locations.now ≡ free_locations node.now }
     requires matching { IsMatching node.now matching.now }
-    ensures { IfOk result (Completes node.now) }
+    ensures completion { IfOk result (IsCompletion node.now matching.now) }
+    ensures completes { IfOk result (Completes node.now) }
 {
-    let places = completion(alloc, node, facilities, locations, matching)?;
+    let places = completion(node, facilities, locations, matching, matched, memory)?;
     Ok(Perm::new(places).unwrap())
 }
 
 /// The locations that this permutation gives the facilities.
 fn completion(
-    alloc: Global,
     node: &Partial,
     facilities: &[u16],
     locations: &[u16],
     matching: &[u16],
+    matched: &mut Vec<u16>,
+    memory: Vec<u16>,
 ) -> Result<Vec<u16>, AllocError>
     requires facilities { facilities.now ≡ free_facilities node.now }
     requires locations { locations.now ≡ free_locations node.now }
@@ -42,31 +47,31 @@ fn completion(
     ensures completes { IfOk result (λ v. Completes node.now v.items) }
 {
     let n = node.size();
-    let matched = picked(alloc, locations, matching)?;
-    let zeros = zeros(alloc, n)?;
-    let places = put_each(zeros, node.facilities(), node.places());
-    Ok(put_each(places, facilities, &matched))
+    pick(locations, matching, matched)?;
+    let places = sized(memory, n)?;
+    let places = put_each(places, node.facilities(), node.places());
+    Ok(put_each(places, facilities, matched))
 }
 
-/// The numbers at these positions.
-fn picked(alloc: Global, numbers: &[u16], positions: &[u16]) -> Result<Vec<u16>, AllocError>
+/// Makes the list that of the numbers at these positions.
+fn pick(numbers: &[u16], positions: &[u16], picked: &mut Vec<u16>) -> Result<(), AllocError>
     requires { (t : ℕ) → t < length positions.now → slice_index positions.now t < length numbers.now }
-    ensures { IfOk result (λ v. v.items ≡ map (slice_index numbers.now) positions.now) }
+    ensures { OnOk result (picked.new.items ≡ map (slice_index numbers.now) positions.now) }
 {
-    let mut picked = Vec::with_capacity(alloc, positions.len())?;
+    picked.clear();
+    picked.reserve(positions.len())?;
     for position in positions {
         picked.push(numbers[usize::from(*position)])?;
     }
-    Ok(picked)
+    Ok(())
 }
 
-/// This many zeros.
-fn zeros(alloc: Global, count: usize) -> Result<Vec<u16>, AllocError>
+/// The list with this many numbers.
+fn sized(mut list: Vec<u16>, count: usize) -> Result<Vec<u16>, AllocError>
     ensures { IfOk result (λ v. length v.items ≡ count) }
 {
-    let mut zeros = Vec::new(alloc);
-    zeros.resize(count, 0)?;
-    Ok(zeros)
+    list.resize(count, 0)?;
+    Ok(list)
 }
 
 /// The list with each value at its position, and all else unchanged.
