@@ -145,22 +145,6 @@ LowersPart-written entries start own c old new x h inside s = record {
   after = λ d hd. get_or-set_other new c d x (pos 0) (λ e. omega arith) ∙ h.after d (omega arith);
 }
 
--- the next one stays
-pub LowersPart-kept : (entries : List ℤ) (start : ℕ) (own : ℤ) (c : ℕ) (old new : List ℤ) → LowersPart entries start own c old new → get_or new c (pos 0) ≤ℤ (get_or entries (start + c) (pos 0) -ℤ own) → LowersPart entries start own (c + 1) old new
-LowersPart-kept entries start own c old new h low = record {
-  same_length = h.same_length;
-  each = λ d hd.
-      elim (cases_lt d c) [
-        | inl less ↦ h.each d less
-        | inr more ↦
-            let e : c ≡ d = omega arith in
-            let is = h.after c (omega arith) in
-            subst (λ (k : ℕ). IsSmaller (get_or old k (pos 0)) (get_or entries (start + k) (pos 0) -ℤ own) (get_or new k (pos 0))) e
-            (record { first = omega (arith, ints, is); second = low; one = inl is })
-      ];
-  after = λ d hd. h.after d (omega arith);
-}
-
 -- once all were lowered, the whole list is
 pub LowersBy-all : (entries : List ℤ) (start : ℕ) (own : ℤ) (count : ℕ) (old new : List ℤ) → length old ≡ count → LowersPart entries start own count old new → LowersBy entries start own old new
 LowersBy-all entries start own count old new e h = record { same_length = h.same_length; each = λ c hc. h.each c (omega (arith, e)) }

@@ -5,7 +5,7 @@ ghost use Rattle.qap_cost.specs.Instance.{entry};
 ghost use Rattle.qap_cost.specs.Matrix.{total};
 ghost use Rattle.qap_cost.specs.Range.{AllWithin};
 ghost use Rattle.pair_duals.specs.Filling.{FillsPart, FillsRows};
-ghost use Rattle.pair_duals.specs.Lines.{LowersBy, TakesRow};
+ghost use Rattle.pair_duals.specs.Lines.{IsSmaller, LowersBy, TakesRow};
 ghost use Rattle.pair_duals.specs.Reduced.{AreLeast, AreLeastOfRows, IsLeast, less_both, less_own};
 
 use crate::number::Number;
@@ -50,10 +50,15 @@ fn lower<N: Number>(entries: &[N], start: usize, own: N, least: &mut [N])
 {
     for c in 0..least.len() {
         let left = difference(entries[start + c], own);
-        if left.is_less(least[c]) {
-            least[c] = left;
-        }
+        least[c] = smaller(least[c], left);
     }
+}
+
+/// The smaller of two numbers. A loop that always writes it has no branch.
+fn smaller<N: Number>(first: N, second: N) -> N
+    ensures { IsSmaller (N.value first) (N.value second) (N.value result) }
+{
+    if second.is_less(first) { second } else { first }
 }
 
 /// An entry less a number.

@@ -108,6 +108,13 @@ impl<N: Number> Reduced<N> {
         self.entries[r * self.rows.len() + c]
     }
 
+    /// The entries, by rows.
+    pub fn entries(&self) -> &[N]
+        ensures { map N.value result.now ≡ self.now.entries }
+    {
+        &self.entries
+    }
+
     /// Row `r`.
     pub(crate) fn row(&self, r: usize) -> &[N]
         requires { r < count_of self.now }

@@ -1,11 +1,10 @@
-use Rattle.std.proofs.Common.{◌≡◌, ◌+◌, length, get_or, map, arith, ap, sym, subst, ◌∙◌, List}
-use Rattle.std.specs.Prelude.{ℤ, pos, ◌-ℤ◌, ◌≤ℤ◌, true}
-use Rattle.std.proofs.lemmas.Int.{ints, by_lt_z}
+use Rattle.std.proofs.Common.{◌≡◌, ◌+◌, length, get_or, map, arith, ap, subst, ◌∙◌, sym}
+use Rattle.std.specs.Prelude.{ℤ, pos, ◌-ℤ◌}
 use Rattle.std.proofs.lemmas.List.{length-map, map-set}
-use Rattle.pair_duals.proofs.Leasts.{LowersPart, LowersPart-none, LowersPart-written, LowersPart-kept, LowersBy-all, smaller_of}
+use Rattle.pair_duals.specs.Lines.{IsSmaller}
+use Rattle.pair_duals.proofs.Leasts.{LowersPart-none, LowersPart-written, LowersBy-all}
 use Rattle.pair_duals.proofs.Values.{value_read, value_within}
 use Rattle.pair_duals.proofs.least.lower.Goals as goal
-use Rattle.pair_duals.proofs.least.lower.Goals.{then-is_less, else-is_less}
 
 pub difference-left-requires-clause-entry : goal.difference-left-requires-clause-entry
 difference-left-requires-clause-entry g c =
@@ -23,23 +22,14 @@ loop-c-preserved g c =
     let now = map value c.loop-c.least in
     let own = value c.args.own in
     let start = c.args.start in
+    let new = value c.smaller.result in
     let read = value_read value c.args.entries.now (start + k) c.index-entries-start.result c.index-entries-start.is (omega (arith, c.requires.count)) in
     let here = value_read value c.loop-c.least k c.index-least-c.result c.index-least-c.is (omega arith) in
     let left : value c.difference-left.result ≡ get_or es (start + k) (pos 0) -ℤ own = c.difference-left.ensures ∙ ap (λ (z : ℤ). z -ℤ own) read in
-    elim c.if-is_less.branch [
-      | then-is_less w ↦
-          let less = c.is_less.ensures.0 w.if-is_less.true in
-          let is = smaller_of (get_or now k (pos 0)) (get_or es (start + k) (pos 0) -ℤ own) (value c.difference-left.result) (omega (arith, ints, less, here, left), left) in
-          subst (λ (xs : List g.row.N.Denot). LowersPart es start own (k + 1) old (map value xs)) (sym w.least-is)
-          (rw (map-set value c.loop-c.least k c.difference-left.result) (LowersPart-written es start own k old now _ c.loop-c.invariant (omega (arith, length-map c.loop-c.least value)) is))
-      | else-is_less w ↦
-          let more : get_or now k (pos 0) ≤ℤ (get_or es (start + k) (pos 0) -ℤ own) =
-          by_lt_z (value c.difference-left.result) (value c.index-least-c.result)
-          (λ less. let yes_it_is : c.is_less.result ≡ true = c.is_less.ensures.1 less in absurd cc)
-          (λ more. omega (arith, ints, more, here, left)) in
-          subst (λ (xs : List g.row.N.Denot). LowersPart es start own (k + 1) old (map value xs)) (sym w.least-is)
-          (LowersPart-kept es start own k old now c.loop-c.invariant more)
-    ]
+    let is : IsSmaller (get_or now k (pos 0)) (get_or es (start + k) (pos 0) -ℤ own) new =
+    subst (λ (x : ℤ). IsSmaller x (get_or es (start + k) (pos 0) -ℤ own) new) here (subst (λ (y : ℤ). IsSmaller (value c.index-least-c.result) y new) left c.smaller.ensures) in
+    rw (map-set value c.loop-c.least k c.smaller.result)
+    (LowersPart-written es start own k old now new c.loop-c.invariant (omega (arith, length-map c.loop-c.least value)) is)
 
 pub returns : goal.returns
 returns g c =
