@@ -1,9 +1,12 @@
 //! What a search needs, and its single steps.
 
 ghost use Rattle.std.specs.Prelude.{◌≡◌, ◌<◌, ◌+ℤ◌, ◌≤ℤ◌, false, IfOk, IsTrue, OnOk, length};
+ghost use Rattle.std.specs.Option.{ForSome};
+ghost use Rattle.qap_cost.specs.Placement.{Placement, IsPlacement};
 ghost use Rattle.qap_proof.specs.Cell.{IsPlaceOf, own_on};
-ghost use Rattle.pair_duals.specs.PairDuals.{AreOf};
-ghost use Rattle.pair_duals.specs.Reduced.{IsChild, IsNonNegative, IsStart, at, count_of};
+ghost use Rattle.pair_duals.specs.PairDuals.{AreDuals, AreOf};
+ghost use Rattle.pair_duals.specs.Range.{IsInScale};
+ghost use Rattle.pair_duals.specs.Reduced.{AreWithin, IsChild, IsFormOf, IsNonNegative, IsStart, at, count_of};
 ghost use Rattle.pair_duals.specs.Seats.{child_at};
 ghost use Rattle.subtree_search.specs.Adding.{Extends};
 ghost use Rattle.subtree_search.specs.Best.{IsIncumbent};
@@ -11,7 +14,7 @@ ghost use Rattle.subtree_search.specs.Closed.{IsClosed, Reaches, ReachesTriviall
 ghost use Rattle.subtree_search.specs.Drawn.{IsDrawn};
 ghost use Rattle.subtree_search.specs.Lines.{IsLineOf, own_of, side_of};
 ghost use Rattle.subtree_search.specs.Opens.{IsOpenAt};
-ghost use Rattle.subtree_search.specs.Premises.{AreSound, IsNode};
+ghost use Rattle.subtree_search.specs.Premises.{AreSound, IsNode, limits_of_64};
 ghost use Rattle.subtree_search.specs.Recorded.{HasTree};
 
 use crate::incumbent::Incumbent;
@@ -21,7 +24,7 @@ use crate::path::Path;
 use crate::record::Record;
 use crate::split::OpenChild;
 use crate::threshold::threshold;
-use pair_duals::PairDuals;
+use pair_duals::{KeptResiduals, PairDuals, Reduced};
 use qap_cost::{Instance, Partial, Perm};
 use std::alloc::AllocError;
 
@@ -35,9 +38,31 @@ pub(crate) struct Ground<'a> {
     pub flows: &'a [Perm],
     /// Permutations that preserve the distances.
     pub distances: &'a [Perm],
+    /// The residuals of pairs, if they are kept.
+    pub kept: Option<&'a KeptResiduals<'a, i64>>,
+    /// They are those of the instance under the pair duals.
+    ghost belongs: { ForSome kept (λ k. k.now ≡ record { problem = instance.now; duals = duals.now }) },
 }
 
 impl Ground<'_> {
+    /// The same under other pair duals, whose residuals are not kept.
+    pub fn under<'x>(&'x self, duals: &'x PairDuals<i64>) -> Ground<'x>
+        ensures instance { result.instance.now ≡ self.now.instance.now }
+        ensures duals { result.duals.now ≡ duals.now }
+        ensures step { result.step ≡ self.now.step }
+        ensures flows { result.flows.now ≡ self.now.flows.now }
+        ensures distances { result.distances.now ≡ self.now.distances.now }
+    {
+        Ground {
+            instance: self.instance,
+            duals,
+            step: self.step,
+            flows: self.flows,
+            distances: self.distances,
+            kept: None,
+        }
+    }
+
     /// The threshold above which a node's value closes it.
     pub fn threshold(&self, incumbent: &Incumbent) -> i128
         ensures { result ≡ threshold_of self.now.duals.now.scale self.now.step incumbent.now.cost }
@@ -142,11 +167,32 @@ impl Ground<'_> {
         next.match_below(level, h, g);
         next.keep_below(level, self.flows, self.distances, facility, location)?;
         self.duals.duals_law();
-        level
-            .form
-            .child(self.instance, self.duals, h, g, &mut next.form)?;
+        self.child(&level.form, h, g, &mut next.form)?;
         path.push(facility as u16, location as u16)?;
         Ok(())
+    }
+
+    /// Makes `child` the form of the child that puts row `h` at column `g`: by the kept residuals, if there are some.
+    fn child(
+        &self,
+        form: &Reduced<i64>,
+        h: usize,
+        g: usize,
+        child: &mut Reduced<i64>,
+    ) -> Result<(), AllocError>
+        requires row { h < count_of form.now }
+        requires column { g < count_of form.now }
+        requires size { self.now.instance.now.size ≡ self.now.duals.now.size }
+        requires in_scale { IsInScale limits_of_64 self.now.instance.now self.now.duals.now.scale }
+        requires duals { AreDuals limits_of_64 self.now.duals.now }
+        requires within { AreWithin self.now.duals.now form.now.rows form.now.columns }
+        ensures child { OnOk result (IsChild self.now.instance.now self.now.duals.now form.now h g child.new) }
+        ensures form { OnOk result ((y : Placement) → IsPlacement y → IsFormOf self.now.instance.now self.now.duals.now y form.now → IsFormOf self.now.instance.now self.now.duals.now (child_at y h g) child.new) }
+    {
+        match self.kept {
+            Some(kept) => form.child_with(kept, h, g, child),
+            None => form.child(self.instance, self.duals, h, g, child),
+        }
     }
 
     /// Whether the node that the path leads to is closed before a line is drawn: by least entries, or since it is a permutation,

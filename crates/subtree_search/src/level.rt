@@ -21,7 +21,6 @@ pub(crate) struct Level {
     pub form: Reduced<i64>,
     u: Vec<i64>,
     v: Vec<i64>,
-    entries: Vec<i64>,
     matching: Matching,
     assigner: Assigner,
     kept_flows: Vec<u16>,
@@ -35,7 +34,6 @@ impl Level {
             form: Reduced::empty(alloc),
             u: Vec::with_capacity(alloc, n)?,
             v: Vec::with_capacity(alloc, n)?,
-            entries: Vec::new(alloc),
             matching: Matching::with_size(alloc, n)?,
             assigner: Assigner::with_size(alloc, n)?,
             kept_flows: Vec::new(alloc),
@@ -126,28 +124,26 @@ impl Level {
         let m = self.form.free();
         self.u.resize(m, 0)?;
         self.v.resize(m, 0)?;
-        self.assign(threshold)?;
+        self.assign(threshold);
         limit(&mut self.u);
         self.form.line(&self.u, &mut self.v);
         Ok(())
     }
 
     /// Makes the numbers of rows and columns the duals of a least assignment.
-    fn assign(&mut self, threshold: i128) -> Result<(), AllocError>
+    fn assign(&mut self, threshold: i128)
         ensures form { self.new.form ≡ self.old.form }
         ensures rows { length self.new.u.items ≡ length self.old.u.items }
         ensures columns { length self.new.v.items ≡ length self.old.v.items }
     {
-        copy_entries(&self.form, &mut self.entries)?;
         let enough = gap_to(&self.form, threshold);
         let _ = self.assigner.solve_from(
-            &self.entries,
+            self.form.entries(),
             &mut self.matching,
             &mut self.u,
             &mut self.v,
             enough,
         );
-        Ok(())
     }
 }
 
@@ -199,17 +195,6 @@ fn keep_some(
             && usize::from(*location) == number
         {
             list.push(*index)?;
-        }
-    }
-    Ok(())
-}
-
-/// Copies the entries of a form, by rows.
-fn copy_entries(form: &Reduced<i64>, entries: &mut Vec<i64>) -> Result<(), AllocError> {
-    entries.clear();
-    for r in 0..form.free() {
-        for c in 0..form.free() {
-            entries.push(form.entry(r, c))?;
         }
     }
     Ok(())

@@ -13,6 +13,7 @@ mod path;
 mod piece;
 mod proving;
 mod record;
+mod residuals;
 mod search;
 mod split;
 mod stop;

@@ -20,6 +20,7 @@ use crate::line::Line;
 use crate::path::Path;
 use crate::piece::{Piece, index_of};
 use crate::record::Record;
+use crate::residuals::{keep, take_back};
 use crate::search::{Split, Subtree, SubtreeSearch, Task, make_room, skip, step_within};
 use crate::stop::Stop;
 use crate::trial::try_child;
@@ -55,19 +56,27 @@ impl SubtreeSearch {
         ensures no_worse { incumbent.new.cost ≤ℤ incumbent.old.cost }
     {
         let alloc = *self.levels.allocator();
+        make_room(&mut self.levels, &mut self.size, subtree.duals.free())?;
+        let kept = keep(
+            alloc,
+            &mut self.residuals,
+            subtree.instance,
+            subtree.duals,
+            u64::MAX,
+        );
         let ground = Ground {
             instance: subtree.instance,
             duals: subtree.duals,
             step: step_within(subtree.step),
             flows: subtree.flows,
             distances: subtree.distances,
+            kept: kept.as_ref(),
         };
         let task = Task {
             ground: &ground,
             limit: 0,
             stop,
         };
-        make_room(&mut self.levels, &mut self.size, subtree.duals.free())?;
         let mut nodes = 0;
         let part = Part {
             alloc,
@@ -84,6 +93,7 @@ impl SubtreeSearch {
             proof,
         )?;
         self.nodes = nodes;
+        take_back(&mut self.residuals, kept);
         Ok(is_done)
     }
 }
@@ -340,7 +350,7 @@ fn prove_child<S: Stop, W: Record>(
         return Ok(false);
     }
     let node = part.node.place(child.facility, child.location)?;
-    let is_done = prove_below(part, &node, deeper, path, incumbent, nodes, proof)?;
+    let is_done = prove_below(part, node, deeper, path, incumbent, nodes, proof)?;
     path.pop();
     Ok(is_done)
 }
@@ -349,34 +359,28 @@ fn prove_child<S: Stop, W: Record>(
 #[cycle(proving)]
 fn prove_below<S: Stop, W: Record>(
     above: &Part<'_, S>,
-    node: &Partial,
+    node: Partial,
     levels: &mut [Level],
     path: &mut Path,
     incumbent: &mut Incumbent,
     nodes: &mut u64,
     proof: &mut W,
 ) -> Result<bool, AllocError>
-    requires size { above.now.task.now.ground.now.instance.now.size ≡ node.now.size }
+    requires size { above.now.task.now.ground.now.instance.now.size ≡ node.size }
     requires sound { AreSound above.now.task.now.ground.now.instance.now above.now.task.now.ground.now.duals.now above.now.task.now.ground.now.step }
     requires range { HasRange above.now.task.now.ground.now.instance.now above.now.task.now.ground.now.duals.now.scale }
-    requires room { length (free_facilities node.now) < length levels.old }
+    requires room { length (free_facilities node) < length levels.old }
     requires symmetries { AreSymmetries above.now.task.now.ground.now.instance.now above.now.task.now.ground.now.flows.now above.now.task.now.ground.now.distances.now }
     requires incumbent { IsIncumbent above.now.task.now.ground.now.instance.now incumbent.old }
-    ensures recorded { IfOk result (λ done. IsTrue done → HasProof above.now.task.now.ground.now.instance.now node.now incumbent.new.cost (W.holds proof.old) (W.holds proof.new)) }
+    ensures recorded { IfOk result (λ done. IsTrue done → HasProof above.now.task.now.ground.now.instance.now node incumbent.new.cost (W.holds proof.old) (W.holds proof.new)) }
     ensures stopped { IfOk result (λ done. done ≡ false → S.says above.now.task.now.stop.now true) }
-    ensures path { OnOk result (path.new ≡ node.now) }
+    ensures path { OnOk result (path.new ≡ node) }
     ensures incumbent { IsIncumbent above.now.task.now.ground.now.instance.now incumbent.new }
     ensures no_worse { incumbent.new.cost ≤ℤ incumbent.old.cost }
 {
     let ground = above.task.ground;
-    let duals = duals_below(above.alloc, ground, node)?;
-    let own = Ground {
-        instance: ground.instance,
-        duals: &duals,
-        step: ground.step,
-        flows: ground.flows,
-        distances: ground.distances,
-    };
+    let duals = duals_below(above.alloc, ground, &node)?;
+    let own = ground.under(&duals);
     let task = Task {
         ground: &own,
         limit: 0,
@@ -385,7 +389,7 @@ fn prove_below<S: Stop, W: Record>(
     let part = Part {
         alloc: above.alloc,
         task: &task,
-        node,
+        node: &node,
         pieces: &[],
     };
     prove_node(&part, levels, path, incumbent, nodes, proof)

@@ -16,6 +16,7 @@ use crate::incumbent::Incumbent;
 use crate::level::Level;
 use crate::path::Path;
 use crate::record::Silent;
+use crate::residuals::{keep, take_back};
 use crate::search::{Split, Subtree, SubtreeSearch, Task, make_room, step_within};
 use crate::stop::Stop;
 use crate::trial::try_child;
@@ -57,19 +58,27 @@ impl SubtreeSearch {
         ensures no_worse { incumbent.new.cost ≤ℤ incumbent.old.cost }
     {
         let alloc = *self.levels.allocator();
+        make_room(&mut self.levels, &mut self.size, subtree.duals.free())?;
+        let kept = keep(
+            alloc,
+            &mut self.residuals,
+            subtree.instance,
+            subtree.duals,
+            u64::MAX,
+        );
         let ground = Ground {
             instance: subtree.instance,
             duals: subtree.duals,
             step: step_within(subtree.step),
             flows: subtree.flows,
             distances: subtree.distances,
+            kept: kept.as_ref(),
         };
         let task = Task {
             ground: &ground,
             limit: 0,
             stop,
         };
-        make_room(&mut self.levels, &mut self.size, subtree.duals.free())?;
         let mut nodes = 0;
         let children = split_node(
             alloc,
@@ -81,6 +90,7 @@ impl SubtreeSearch {
             &mut nodes,
         )?;
         self.nodes = nodes;
+        take_back(&mut self.residuals, kept);
         Ok(children)
     }
 }

@@ -72,7 +72,8 @@ fn search_below<S: Stop>(
     })
 }
 
-/// Asserts what a search without a limit finds from a permutation, and what searches with each lower limit do.
+/// Asserts what a search without a limit finds from a permutation, and what searches with each lower limit do. Without a
+/// limit it keeps residuals; with few nodes it computes them, and evaluates the same.
 fn assert_found(
     rt: &impl Abort,
     alloc: Global,

@@ -2,9 +2,12 @@ use Rattle.std.proofs.Common.{◌≡◌, ◌<◌, length, sym, ◌∙◌, subst,
 use Rattle.std.proofs.lemmas.Int.{ints}
 use Rattle.qap_cost.specs.Placement.{Placement, IsFreeFacility, IsFreeLocation, placing}
 use Rattle.qap_proof.specs.Cell.{IsPlaceOf, own_on}
+use Rattle.dual_ascent.specs.AscentRange.{HasRange}
+use Rattle.pair_duals.specs.PairDuals.{Duals}
+use Rattle.pair_duals.specs.Range.{IsInScale}
 use Rattle.pair_duals.specs.Reduced.{count_of}
 use Rattle.subtree_search.specs.Lines.{child_on, column_on, own_of, row_on, side_of}
-use Rattle.subtree_search.specs.Premises.{IsNode}
+use Rattle.subtree_search.specs.Premises.{AreSound, IsNode, limits_of_64}
 use Rattle.subtree_search.specs.Recorded.{HasKid, HasSplit, HasTree}
 use Rattle.subtree_search.proofs.KidLists.{HasBegun-more, HasBegun-start, HasSplit-all}
 use Rattle.subtree_search.proofs.Pieces.{pieces-less}
@@ -206,3 +209,30 @@ prove_child-returns-clause-no_worse g t c = let one = c.try_child.ensures.no_wor
 
 pub prove_child-returns-in_err-is_done-clause-no_worse : goal.prove_child-returns-in_err-is_done-clause-no_worse
 prove_child-returns-in_err-is_done-clause-no_worse g t c = let one = c.try_child.ensures.no_worse in let other = c.prove_below.ensures.no_worse in omega (arith, ints, one, other)
+
+-- ---- a node below it
+
+pub prove_below-prove_node-requires : goal.prove_below-prove_node-requires
+prove_below-prove_node-requires g t c κs within =
+    let I = c.args.above.now.task.now.ground.now.instance.now in
+    let own = c.under-own.ensures in
+    let found = c.in_ok-duals.ensures in
+    let facilities = ap length found.of_node.facilities in
+    let sound : AreSound I c.in_ok-duals.duals c.args.above.now.task.now.ground.now.step = record {
+      size = c.requires.size ∙ sym found.of_node.size;
+      even = subst (λ (D : Duals). length D.locations ≡ length D.facilities) c.duals.view_is c.duals.invariant.same_count;
+      in_scale = subst (IsInScale limits_of_64 I) (sym found.scale) c.requires.sound.in_scale;
+      fit = found.fits;
+      divides = c.requires.sound.divides;
+    } in
+    let range = subst (HasRange I) (sym found.scale) c.requires.range in (
+      omega (arith, c.decreases),
+      (
+        within.0,
+        (
+          within.1,
+          rw (own.instance, own.duals, own.step, own.flows, own.distances)
+              (c.requires.size, (found.of_node, (sound, (range, (omega (arith, c.requires.room, facilities), (c.requires.symmetries, (c.requires.incumbent, λ k d below. absurd (omega arith)))))))),
+        ),
+      ),
+    )
