@@ -1,9 +1,10 @@
 //! Runs of a search by a schedule: turns of workers, moments and losses in any order.
 
-ghost use Rattle.std.specs.Prelude.{◌≡◌, ◌<◌, ◌≤◌, false, All, IfOk, OnOk, ℕ, map, replicate, slice_get, vec_len};
+ghost use Rattle.std.specs.Prelude.{◌≡◌, ◌<◌, ◌≤◌, false, All, IfOk, None, OnOk, ℕ, map, replicate, slice_get, vec_len};
 ghost use Rattle.std.specs.Arc.{arc_value};
 ghost use Rattle.qap_search.specs.Worker.Hand.{is_due};
 ghost use Rattle.qap_search.specs.Runs.Interleaving.{IsRun, Moment, Moves, PostValue, TurnOf, beginner, report_of, without_worker};
+ghost use Rattle.shared_space.specs.Opening.{IsBlankFor, opened};
 ghost use Rattle.shared_space.specs.Place.{Place};
 ghost use Rattle.qap_search.specs.Runs.Opening.{IsOpening};
 ghost use Rattle.qap_search.specs.Law.Search.{whole};
@@ -63,12 +64,12 @@ fn follow<L: Law>(
     workers: u16,
     steps: &[Step],
 ) -> Result<Run, AllocError>
-    requires name { blank.name ≡ L.name }
-    requires parts { blank.parts ≡ L.parts }
-    requires one_each { blank.parts ≡ workers }
+    requires blank { IsBlankFor L.name L.parts blank workers }
     requires few { workers ≤ 64 }
     requires law { IsLawOf (whole instance.now) L.lawful L.allowed }
+    requires limit { L.limit ≡ None }
     requires opening { IsOpening (whole instance.now) space }
+    requires reached { L.reached (opened space workers None) }
     ensures { IfOk result (IsRun instance.now workers steps.now) }
 {
     let rows = shared_rows(alloc, instance)?;
@@ -94,6 +95,7 @@ fn posts_for<L: Law>(
     shares: Vec<Share<L>>,
 ) -> Result<Vec<Post<L>>, AllocError>
     requires law { IsSearchLaw (arc_value rows.now) L.lawful L.allowed }
+    requires limit { L.limit ≡ None }
     requires fresh { All (λ (n : ℕ). n ≡ 0) shares.items }
     requires few { vec_len shares ≤ 64 }
     ensures { IfOk result (λ posts. posts.items ≡ replicate (vec_len shares) (beginner (arc_value rows.now) 1000)) }
