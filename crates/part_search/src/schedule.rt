@@ -6,8 +6,8 @@ ghost use Rattle.qap_cost.specs.Instance.{Problem};
 ghost use Rattle.shared_space.specs.Event.{Did};
 ghost use Rattle.shared_space.specs.Opening.{IsBlankFor, opened};
 ghost use Rattle.subtree_search.specs.Best.{IsIncumbent};
-ghost use Rattle.part_search.specs.Law.{IsLawOf, best_with};
-ghost use Rattle.part_search.specs.Opening.{IsOpening, part_of};
+ghost use Rattle.part_search.specs.Law.{IsLawOf};
+ghost use Rattle.part_search.specs.Opening.{IsOpening, part_from};
 ghost use Rattle.part_search.specs.Schedule.{IsRun, Moves, Turns};
 ghost use Rattle.part_search.specs.Worker.{Allows, Made};
 
@@ -63,7 +63,7 @@ pub fn play<S: Stop>(
     requires few { workers ≤ 64 }
     requires same_size { task.now.root.now.size ≡ (arc_value task.now.ground.now).size }
     requires start { length task.now.start.now ≡ (arc_value task.now.ground.now).size }
-    ensures { IfOk result (IsRun (part_of (arc_value task.now.ground.now) task.now.root.now (best_with (arc_value task.now.ground.now) task.now.start.now)) workers steps.now) }
+    ensures { IfOk result (IsRun (part_from (arc_value task.now.ground.now) task.now.root.now task.now.start.now) workers steps.now) }
 {
     let instance = task.ground.instance();
     let start = Incumbent::new(instance, task.start.copy()?);
@@ -84,11 +84,11 @@ fn follow<L: Law, S: Stop>(
     requires blank { IsBlankFor L.name L.parts blank workers }
     requires few { workers ≤ 64 }
     requires start { length task.now.start.now ≡ (arc_value task.now.ground.now).size }
-    requires law { IsLawOf (part_of (arc_value task.now.ground.now) task.now.root.now (best_with (arc_value task.now.ground.now) task.now.start.now)) L.lawful L.allowed }
+    requires law { IsLawOf (part_from (arc_value task.now.ground.now) task.now.root.now task.now.start.now) L.lawful L.allowed }
     requires limit { L.limit ≡ None }
-    requires opening { IsOpening (part_of (arc_value task.now.ground.now) task.now.root.now (best_with (arc_value task.now.ground.now) task.now.start.now)) space }
+    requires opening { IsOpening (part_from (arc_value task.now.ground.now) task.now.root.now task.now.start.now) space }
     requires reached { L.reached (opened space workers None) }
-    ensures { IfOk result (IsRun (part_of (arc_value task.now.ground.now) task.now.root.now (best_with (arc_value task.now.ground.now) task.now.start.now)) workers steps.now) }
+    ensures { IfOk result (IsRun (part_from (arc_value task.now.ground.now) task.now.root.now task.now.start.now) workers steps.now) }
 {
     let made = Alone::<L>::new(alloc, blank, space, usize::from(workers));
     let Ok((mut room, shares)) = made else {
