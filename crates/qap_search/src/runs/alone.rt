@@ -5,6 +5,7 @@ ghost use Rattle.std.specs.Arc.{arc_value};
 ghost use Rattle.qap_search.specs.Runs.Answer.{IsAnswer, IsSolveFault};
 ghost use Rattle.qap_search.specs.Runs.Outcome.{IsEnded};
 ghost use Rattle.qap_search.specs.Runs.Opening.{IsOpening};
+ghost use Rattle.qap_search.specs.Runs.Seat.{HasShare};
 ghost use Rattle.qap_search.specs.Law.Search.{Search, whole};
 ghost use Rattle.qap_search.specs.Law.SearchLaw.{IsLawOf, IsSearchLaw};
 ghost use Rattle.shared_space.specs.Opening.{IsBlankFor, MayOpen, opened};
@@ -138,8 +139,7 @@ fn work<L: Law, R: Wait>(
     share: &mut Share<L>,
     nodes: &Template,
 ) -> Ended
-    requires law { IsSearchLaw hand.old.instance L.lawful L.allowed }
-    requires counted { hand.old.accepted ≡ share.old }
+    requires { HasShare L.lawful L.allowed hand.old share.old }
     ensures { hand.new.accepted ≡ share.new }
 {
     for _ in rt.forever() {

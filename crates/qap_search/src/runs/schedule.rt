@@ -1,9 +1,8 @@
 //! Runs of a search by a schedule: turns of workers, moments and losses in any order.
 
-ghost use Rattle.std.specs.Prelude.{◌≡◌, ◌<◌, ◌≤◌, false, All, IfOk, None, OnOk, ℕ, map, replicate, slice_get, vec_len};
+ghost use Rattle.std.specs.Prelude.{◌≡◌, ◌<◌, ◌≤◌, All, IfOk, None, OnOk, ℕ, map, replicate, slice_get, vec_len};
 ghost use Rattle.std.specs.Arc.{arc_value};
-ghost use Rattle.qap_search.specs.Worker.Hand.{is_due};
-ghost use Rattle.qap_search.specs.Runs.Interleaving.{IsRun, Moment, Moves, PostValue, TurnOf, beginner, report_of, without_worker};
+ghost use Rattle.qap_search.specs.Runs.Interleaving.{AreReady, IsRun, Moment, Moves, TurnOf, beginner, report_of, without_worker};
 ghost use Rattle.shared_space.specs.Opening.{IsBlankFor, opened};
 ghost use Rattle.shared_space.specs.Place.{Place};
 ghost use Rattle.qap_search.specs.Runs.Opening.{IsOpening};
@@ -119,10 +118,10 @@ fn make<L: Law>(
     room: &mut Alone<L>,
 ) -> Result<(), AllocError>
     requires law { IsSearchLaw (arc_value rows.now) L.lawful L.allowed }
-    requires ready { All (λ (p : PostValue). is_due p.hand.stage ≡ false) posts.old.items }
+    requires ready { AreReady posts.old.items }
     ensures moves { let old : Moment = record { posts = posts.old.items; place = room.old } in let new : Moment = record { posts = posts.new.items; place = room.new } in
         OnOk result (Moves (arc_value rows.now) 1000 old step new) }
-    ensures ready { OnOk result (All (λ (p : PostValue). is_due p.hand.stage ≡ false) posts.new.items) }
+    ensures ready { OnOk result (AreReady posts.new.items) }
 {
     match step {
         Step::Turn(worker) => turn(usize::from(worker), posts, room),
@@ -140,10 +139,10 @@ fn turn<L: Law>(
     posts: &mut Vec<Post<L>>,
     room: &mut Alone<L>,
 ) -> Result<(), AllocError>
-    requires { All (λ (p : PostValue). is_due p.hand.stage ≡ false) posts.old.items }
+    requires { AreReady posts.old.items }
     ensures turn { let old : Moment = record { posts = posts.old.items; place = room.old } in let new : Moment = record { posts = posts.new.items; place = room.new } in
         OnOk result (TurnOf (slice_get posts.old.items worker) worker old new) }
-    ensures ready { OnOk result (All (λ (p : PostValue). is_due p.hand.stage ≡ false) posts.new.items) }
+    ensures ready { OnOk result (AreReady posts.new.items) }
 {
     if worker < posts.len() {
         posts[worker].turn(room)?;
@@ -159,10 +158,10 @@ fn lose<L: Law>(
     posts: &mut Vec<Post<L>>,
 ) -> Result<(), AllocError>
     requires law { IsSearchLaw (arc_value rows.now) L.lawful L.allowed }
-    requires ready { All (λ (p : PostValue). is_due p.hand.stage ≡ false) posts.old.items }
+    requires ready { AreReady posts.old.items }
     ensures lost { (place : Place) → let old : Moment = record { posts = posts.old.items; place = place } in let new : Moment = record { posts = posts.new.items; place = place } in
         OnOk result (new ≡ without_worker (arc_value rows.now) 1000 (slice_get posts.old.items worker) worker old) }
-    ensures ready { OnOk result (All (λ (p : PostValue). is_due p.hand.stage ≡ false) posts.new.items) }
+    ensures ready { OnOk result (AreReady posts.new.items) }
 {
     if worker < posts.len() {
         posts[worker].lose(alloc, rows, LEASE_MS)?;
