@@ -1,5 +1,5 @@
 -- The initial space of a search.
-use Rattle.std.specs.Prelude.{◌≡◌, List}
+use Rattle.std.specs.Prelude.{◌≡◌, ℕ, List}
 use Rattle.qap_cost.specs.Instance.{Problem}
 use Rattle.qap_cost.specs.Placement.{Placement}
 use Rattle.space_txn.specs.Content.{content_of}
@@ -8,11 +8,15 @@ use Rattle.subtree_search.specs.Best.{Best}
 use Rattle.tuple_match.specs.FieldValue.{FieldValue}
 use Rattle.tuple_space.specs.Space.{put}
 use Rattle.tuple_space.specs.declared.lease.Lease.TheVariants.{Forever}
-use Rattle.part_search.specs.Law.{IsSearched, Part}
+use Rattle.part_search.specs.Law.{IsSearched, Part, best_with}
 
 -- the part that is searched, starting from a permutation
 abbrev pub part_of : Problem → Placement → Best → Part
 part_of I root start = record { instance = I; root = root; start = start }
+
+-- the same from this permutation with its cost
+abbrev pub part_from : Problem → Placement → List ℕ → Part
+part_from I root permutation = part_of I root (best_with I permutation)
 
 -- a tuple written permanently
 abbrev pub with_tuple : World → List FieldValue → World

@@ -1,13 +1,13 @@
 //! Runs of a search by a schedule: turns of workers, moments and losses in any order.
 
-ghost use Rattle.std.specs.Prelude.{◌≡◌, ◌<◌, ◌≤◌, nat_lt, All, IfOk, OnOk, ℕ, length, vec_len};
+ghost use Rattle.std.specs.Prelude.{◌≡◌, ◌<◌, ◌≤◌, nat_lt, All, IfOk, None, OnOk, ℕ, length, vec_len};
 ghost use Rattle.std.specs.Arc.{arc_value};
 ghost use Rattle.qap_cost.specs.Instance.{Problem};
 ghost use Rattle.shared_space.specs.Event.{Did};
-ghost use Rattle.shared_space.specs.Place.{place_of};
+ghost use Rattle.shared_space.specs.Opening.{IsBlankFor, opened};
 ghost use Rattle.subtree_search.specs.Best.{IsIncumbent};
-ghost use Rattle.part_search.specs.Law.{IsLawOf, best_with};
-ghost use Rattle.part_search.specs.Opening.{IsOpening, part_of};
+ghost use Rattle.part_search.specs.Law.{IsLawOf};
+ghost use Rattle.part_search.specs.Opening.{IsOpening, part_from};
 ghost use Rattle.part_search.specs.Schedule.{IsRun, Moves, Turns};
 ghost use Rattle.part_search.specs.Worker.{Allows, Made};
 
@@ -16,7 +16,7 @@ use crate::ground::Ground;
 use crate::opening::opening_space;
 use crate::worker::Worker;
 use qap_cost::{Partial, Perm};
-use shared_space::{Alone, Law, Room, Share};
+use shared_space::{Alone, Law, Room, Share, no_limit_law};
 use space_txn::TxnSpace;
 use std::alloc::{AllocError, Global};
 use std::marker::{Brand, Model};
@@ -63,7 +63,7 @@ pub fn play<S: Stop>(
     requires few { workers ≤ 64 }
     requires same_size { task.now.root.now.size ≡ (arc_value task.now.ground.now).size }
     requires start { length task.now.start.now ≡ (arc_value task.now.ground.now).size }
-    ensures { IfOk result (IsRun (part_of (arc_value task.now.ground.now) task.now.root.now (best_with (arc_value task.now.ground.now) task.now.start.now)) workers steps.now) }
+    ensures { IfOk result (IsRun (part_from (arc_value task.now.ground.now) task.now.root.now task.now.start.now) workers steps.now) }
 {
     let instance = task.ground.instance();
     let start = Incumbent::new(instance, task.start.copy()?);
@@ -81,14 +81,14 @@ fn follow<L: Law, S: Stop>(
     workers: u16,
     steps: &[Step],
 ) -> Result<TxnSpace, AllocError>
-    requires name { blank.name ≡ L.name }
-    requires parts { blank.parts ≡ L.parts }
-    requires one_each { blank.parts ≡ workers }
+    requires blank { IsBlankFor L.name L.parts blank workers }
     requires few { workers ≤ 64 }
     requires start { length task.now.start.now ≡ (arc_value task.now.ground.now).size }
-    requires law { IsLawOf (part_of (arc_value task.now.ground.now) task.now.root.now (best_with (arc_value task.now.ground.now) task.now.start.now)) L.lawful L.allowed }
-    requires opening { IsOpening (part_of (arc_value task.now.ground.now) task.now.root.now (best_with (arc_value task.now.ground.now) task.now.start.now)) space }
-    ensures { IfOk result (IsRun (part_of (arc_value task.now.ground.now) task.now.root.now (best_with (arc_value task.now.ground.now) task.now.start.now)) workers steps.now) }
+    requires law { IsLawOf (part_from (arc_value task.now.ground.now) task.now.root.now task.now.start.now) L.lawful L.allowed }
+    requires limit { L.limit ≡ None }
+    requires opening { IsOpening (part_from (arc_value task.now.ground.now) task.now.root.now task.now.start.now) space }
+    requires reached { L.reached (opened space workers None) }
+    ensures { IfOk result (IsRun (part_from (arc_value task.now.ground.now) task.now.root.now task.now.start.now) workers steps.now) }
 {
     let made = Alone::<L>::new(alloc, blank, space, usize::from(workers));
     let Ok((mut room, shares)) = made else {
@@ -109,6 +109,7 @@ struct Post<L: Law> {
 }
 
 impl<L: Law> Model for Post<L> {
+    ghost use Rattle.std.specs.Prelude.{◌≡◌, None};
     ghost use Rattle.qap_cost.specs.Instance.{Problem};
     ghost use Rattle.part_search.specs.Worker.{Allows};
 
@@ -116,13 +117,14 @@ impl<L: Law> Model for Post<L> {
 
     ghost view = { λ p. p.worker };
 
-    ghost invariant = { λ p. Allows p.worker L.allowed };
+    ghost invariant = { λ p. Allows p.worker L.allowed × (L.limit ≡ None) };
 }
 
 impl<L: Law> Post<L> {
     /// The place of a worker with its share.
     fn new(worker: Worker, share: Share<L>) -> Post<L>
-        requires { Allows worker L.allowed }
+        requires allows { Allows worker L.allowed }
+        requires limit { L.limit ≡ None }
         ensures { result ≡ worker }
     {
         Post { worker, share }
@@ -145,18 +147,35 @@ impl<L: Law> Post<L> {
     }
 }
 
+/// The worker's next step; it tries the node that it took then.
 fn turn_of<L: Law, S: Stop>(
     worker: &mut Worker,
     share: &mut Share<L>,
     room: &mut Alone<L>,
     stop: &S,
 ) -> Result<(), AllocError>
-    requires { Allows worker.old L.allowed }
+    requires allows { Allows worker.old L.allowed }
+    requires limit { L.limit ≡ None }
     ensures made { Made Did worker.old room.old room.new }
     ensures instance { worker.new ≡ worker.old }
 {
-    worker.step(room, share)?;
+    step_of(worker, share, room)?;
     worker.try_node(&aid::Alone(stop))
+}
+
+/// The worker's next step, as one of the machine.
+fn step_of<L: Law>(
+    worker: &mut Worker,
+    share: &mut Share<L>,
+    room: &mut Alone<L>,
+) -> Result<bool, AllocError>
+    requires allows { Allows worker.old L.allowed }
+    requires limit { L.limit ≡ None }
+    ensures made { Made Did worker.old room.old room.new }
+    ensures instance { worker.new ≡ worker.old }
+{
+    no_limit_law();
+    worker.step(room, share)
 }
 
 /// A worker who has done nothing yet.
@@ -175,6 +194,7 @@ fn posts_for<L: Law, S: Stop>(
 ) -> Result<Vec<Post<L>>, AllocError>
     requires start { length task.now.start.now ≡ (arc_value task.now.ground.now).size }
     requires law { Allows (arc_value task.now.ground.now) L.allowed }
+    requires limit { L.limit ≡ None }
     ensures count { IfOk result (λ posts. vec_len posts ≡ vec_len shares) }
     ensures instance { IfOk result (λ posts. All (λ (I : Problem). I ≡ arc_value task.now.ground.now) posts.items) }
 {

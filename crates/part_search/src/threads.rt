@@ -2,12 +2,12 @@
 
 ghost use Rattle.std.specs.Prelude.{◌≡◌, ◌<◌, ◌≤◌, [], IfOk, length, vec_capacity, vec_len};
 ghost use Rattle.std.specs.Arc.{arc_value};
-ghost use Rattle.shared_space.specs.Limit.{IsWithin, is_reached};
-ghost use Rattle.shared_space.specs.Place.{place_of};
+ghost use Rattle.shared_space.specs.Limit.{IsWithin};
+ghost use Rattle.shared_space.specs.Opening.{IsBlankFor, opened};
 ghost use Rattle.space_txn.specs.Content.{content_of};
 ghost use Rattle.part_search.specs.Answer.{IsAnswer};
-ghost use Rattle.part_search.specs.Law.{IsLawOf, IsSearched, Part, best_with};
-ghost use Rattle.part_search.specs.Opening.{IsOpening, part_of};
+ghost use Rattle.part_search.specs.Law.{IsLawOf, IsSearched, Part};
+ghost use Rattle.part_search.specs.Opening.{IsOpening, part_from};
 ghost use Rattle.part_search.specs.Worker.{Allows};
 
 use crate::answer::{Answer, answer_of};
@@ -74,7 +74,7 @@ where
     requires few { crew.workers ≤ 64 }
     requires same_size { task.now.root.now.size ≡ (arc_value task.now.ground.now).size }
     requires start { length task.now.start.now ≡ (arc_value task.now.ground.now).size }
-    ensures answer { IfOk result (IsAnswer (part_of (arc_value task.now.ground.now) task.now.root.now (best_with (arc_value task.now.ground.now) task.now.start.now))) }
+    ensures answer { IfOk result (IsAnswer (part_from (arc_value task.now.ground.now) task.now.root.now task.now.start.now)) }
     ensures limit { IfOk result (λ a. IsWithin crew.limit a.nodes) }
 {
     let space = run_of(rt, alloc, task, crew)?;
@@ -96,7 +96,7 @@ where
     requires few { crew.workers ≤ 64 }
     requires same_size { task.now.root.now.size ≡ (arc_value task.now.ground.now).size }
     requires start { length task.now.start.now ≡ (arc_value task.now.ground.now).size }
-    ensures searched { IfOk result (λ space. IsSearched (part_of (arc_value task.now.ground.now) task.now.root.now (best_with (arc_value task.now.ground.now) task.now.start.now)) (content_of space)) }
+    ensures searched { IfOk result (λ space. IsSearched (part_from (arc_value task.now.ground.now) task.now.root.now task.now.start.now) (content_of space)) }
     ensures limit { IfOk result (λ space. IsWithin crew.limit space.commits) }
 {
     let instance = task.ground.instance();
@@ -121,15 +121,13 @@ where
     R: Threads + Wait + time::Clock + Sync,
     S: Watch,
     requires some { 0 < crew.workers }
-    requires name { blank.name ≡ L.name }
-    requires parts { blank.parts ≡ L.parts }
-    requires one_each { blank.parts ≡ crew.workers }
+    requires blank { IsBlankFor L.name L.parts blank crew.workers }
     requires start { length task.now.start.now ≡ (arc_value task.now.ground.now).size }
-    requires law { IsLawOf (part_of (arc_value task.now.ground.now) task.now.root.now (best_with (arc_value task.now.ground.now) task.now.start.now)) L.lawful L.allowed }
+    requires law { IsLawOf (part_from (arc_value task.now.ground.now) task.now.root.now task.now.start.now) L.lawful L.allowed }
     requires limit { L.limit ≡ crew.limit }
-    requires opening { IsOpening (part_of (arc_value task.now.ground.now) task.now.root.now (best_with (arc_value task.now.ground.now) task.now.start.now)) space }
-    requires reached { L.reached (place_of space crew.workers 0 (is_reached crew.limit 0)) }
-    ensures searched { IfOk result (λ left. IsSearched (part_of (arc_value task.now.ground.now) task.now.root.now (best_with (arc_value task.now.ground.now) task.now.start.now)) (content_of left)) }
+    requires opening { IsOpening (part_from (arc_value task.now.ground.now) task.now.root.now task.now.start.now) space }
+    requires reached { L.reached (opened space crew.workers crew.limit) }
+    ensures searched { IfOk result (λ left. IsSearched (part_from (arc_value task.now.ground.now) task.now.root.now task.now.start.now) (content_of left)) }
     ensures limit { IfOk result (λ left. IsWithin crew.limit left.commits) }
 {
     let count = usize::from(crew.workers);

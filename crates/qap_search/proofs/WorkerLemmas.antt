@@ -3,3 +3,4 @@ pub mod BestSteps
 pub mod Preparing
 pub mod Standings
 pub mod Thinkings
+pub mod Turns

@@ -4,3 +4,4 @@ pub mod Interleaving
 pub mod Opening
 pub mod Outcome
 pub mod Ran
+pub mod Seat

@@ -1,4 +1,5 @@
 pub mod LawLemmas
 pub mod MarkLemmas
 pub mod RunLemmas
+pub mod UnderLaw
 pub mod WriteLemmas

@@ -1,8 +1,10 @@
 -- A limit of commits, which the law of a space may set.
 use Rattle.std.specs.Prelude.{◌≡◌, ℕ, ◌≤◌, ◌==◌, Bool, true, false, ◌||◌, Option, Some, None}
+use Rattle.space_txn.specs.Content.{content_of}
 use Rattle.space_txn.specs.Machine.{Step, commit}
 use Rattle.space_txn.specs.Txn.{TxnValue}
 use Rattle.shared_space.specs.Event.{Did, Event, Reply, call, answered, limited}
+use Rattle.shared_space.specs.Law.{Content}
 use Rattle.shared_space.specs.Place.{Place}
 
 -- this many commits are at most the limit, if there is one
@@ -19,6 +21,12 @@ is_reached (Some limit) commits = commits == limit
 pub record IsLimited (limit : Option ℕ) (p : Place) : Type 0 where
   pub within : IsWithin limit p.world.commits
   pub closed : is_reached limit p.world.commits ≡ true → p.closed ≡ true
+
+-- what holds of a space under a law: its content is lawful, its commits are within the limit, and the place is one that is reached
+pub record IsUnderLaw (lawful : Content → ℕ → Type 0) (limit : Option ℕ) (reached : Place → Type 0) (p : Place) : Type 0 where
+  pub content : lawful (content_of p.world) p.world.commits
+  pub limited : IsLimited limit p
+  pub place : reached p
 
 -- A commit under a limit: if the limit is reached it changes nothing. Otherwise it is the machine's, and the space is closed
 -- if the limit is then reached.

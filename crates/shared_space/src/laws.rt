@@ -1,6 +1,6 @@
 //! How a transaction's commit changes the content, and what runs of a space result in.
 
-ghost use Rattle.std.specs.Prelude.{◌≡◌, ◌+◌, ℕ, List, [], ◌∷◌, ◌++◌, true, false, Bool, Option, count_by};
+ghost use Rattle.std.specs.Prelude.{◌≡◌, ◌+◌, ℕ, List, [], ◌∷◌, ◌++◌, true, false, Bool, None, Option, count_by};
 ghost use Rattle.tuple_match.specs.FieldValue.{FieldValue};
 ghost use Rattle.tuple_space.specs.declared.lease.Lease.TheVariants.{Forever};
 ghost use Rattle.tuple_space.specs.declared.write.Write.{Write};
@@ -8,6 +8,8 @@ ghost use Rattle.space_txn.specs.Content.{SameItems, added_of, gone_of, kept_of}
 ghost use Rattle.space_txn.specs.Finding.{IsUntaken};
 ghost use Rattle.space_txn.specs.Marks.{with_mark};
 ghost use Rattle.space_txn.specs.declared.mark.Mark.{Mark};
+ghost use Rattle.shared_space.specs.Event.{Did, Event, Reply};
+ghost use Rattle.shared_space.specs.Limit.{DidWithin};
 ghost use Rattle.shared_space.specs.Place.{Place};
 ghost use Rattle.shared_space.specs.Run.{Act, LeadTo, is_accepted};
 
@@ -32,4 +34,10 @@ pub fn writing_law()
 pub fn run_law()
     ensures { (limit : Option ℕ) (old new : Place) (acts : List Act) → LeadTo limit old acts new →
         new.world.commits ≡ old.world.commits + count_by is_accepted acts }
+{}
+
+/// Without a limit, each step of a space under its law is one of the machine, and the other way round.
+pub fn no_limit_law()
+    ensures machine { (old new : Place) (event : Event) (reply : Reply) → DidWithin None old event reply new → Did old event reply new }
+    ensures within { (old new : Place) (event : Event) (reply : Reply) → Did old event reply new → DidWithin None old event reply new }
 {}

@@ -1,10 +1,10 @@
 //! Observes a space.
 
+use crate::alone::Alone;
 use crate::law::Law;
-use crate::limited::Limited;
 
 /// Observes a space without changing it.
 pub trait Look<L: Law> {
     /// Looks at the space.
-    fn look(&mut self, space: &Limited<L>);
+    fn look(&mut self, space: &Alone<L>);
 }

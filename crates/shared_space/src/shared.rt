@@ -7,14 +7,14 @@ ghost use Rattle.space_txn.specs.Content.{content_of};
 ghost use Rattle.space_txn.specs.Finding.{Finds, Shows};
 ghost use Rattle.space_txn.specs.Machine.{find_answer};
 ghost use Rattle.shared_space.specs.Law.{InLawful, IsFree, MayCommit};
-ghost use Rattle.shared_space.specs.Limit.{IsWithin, is_reached};
-ghost use Rattle.shared_space.specs.Place.{place_of};
+ghost use Rattle.shared_space.specs.Limit.{IsWithin};
+ghost use Rattle.shared_space.specs.Opening.{IsBlankFor, MayOpen};
 ghost use Rattle.shared_space.specs.Run.{IsReached};
 ghost use Rattle.shared_space.specs.Refusals.{IsAbortError, IsBeginError, IsCommitError, IsFindError, IsOutError};
 
+use crate::alone::Alone;
 use crate::error::{CommitError, SharedError};
 use crate::law::Law;
-use crate::limited::Limited;
 use crate::locking::locked;
 use crate::look::Look;
 use crate::room::Room;
@@ -39,7 +39,7 @@ type Apart<T> = CachePadded<CachePadded<T>>;
 /// word from each other, and leave what the lock's owner works on near its processor.
 #[derive(Drop)]
 pub struct Shared<L: Law> {
-    limited: Mutex<Apart<Limited<L>>>,
+    alone: Mutex<Apart<Alone<L>>>,
     changed: Condvar,
 }
 
@@ -53,13 +53,9 @@ impl<L: Law> Shared<L> {
         space: TxnSpace,
         shares: usize,
     ) -> Result<(Shared<L>, Vec<Share<L>>), (AllocError, Blank, TxnSpace)>
-        requires name { blank.name ≡ L.name }
-        requires parts { blank.parts ≡ L.parts }
-        requires shares { shares ≡ L.parts }
-        requires lawful { L.lawful (content_of space) space.commits }
-        requires fresh { space.commits ≡ 0 }
+        requires blank { IsBlankFor L.name L.parts blank shares }
         requires limit { L.limit ≡ None }
-        requires reached { L.reached (place_of space shares 0 false) }
+        requires space { MayOpen L.lawful None L.reached space shares }
         ensures shares { IfOk result (λ made. made.1.items ≡ replicate shares 0) }
         ensures handed_back { IfErr result (λ back. (back.1 ≡ blank) × (back.2 ≡ space)) }
     {
@@ -75,13 +71,9 @@ impl<L: Law> Shared<L> {
         shares: usize,
         limit: u64,
     ) -> Result<(Shared<L>, Vec<Share<L>>), (AllocError, Blank, TxnSpace)>
-        requires name { blank.name ≡ L.name }
-        requires parts { blank.parts ≡ L.parts }
-        requires shares { shares ≡ L.parts }
-        requires lawful { L.lawful (content_of space) space.commits }
-        requires fresh { space.commits ≡ 0 }
+        requires blank { IsBlankFor L.name L.parts blank shares }
         requires limit { L.limit ≡ Some limit }
-        requires reached { L.reached (place_of space shares 0 (is_reached (Some limit) 0)) }
+        requires space { MayOpen L.lawful (Some limit) L.reached space shares }
         ensures shares { IfOk result (λ made. made.1.items ≡ replicate shares 0) }
         ensures handed_back { IfErr result (λ back. (back.1 ≡ blank) × (back.2 ≡ space)) }
     {
@@ -96,13 +88,9 @@ impl<L: Law> Shared<L> {
         shares: usize,
         limit: Option<u64>,
     ) -> Result<(Shared<L>, Vec<Share<L>>), AllocError>
-        requires name { blank.name ≡ L.name }
-        requires parts { blank.parts ≡ L.parts }
-        requires shares { shares ≡ L.parts }
-        requires lawful { L.lawful (content_of space) space.commits }
-        requires fresh { space.commits ≡ 0 }
+        requires blank { IsBlankFor L.name L.parts blank shares }
         requires limit { L.limit ≡ limit }
-        requires reached { L.reached (place_of space shares 0 (is_reached limit 0)) }
+        requires space { MayOpen L.lawful limit L.reached space shares }
         ensures { IfOk result (λ made. made.1.items ≡ replicate shares 0) }
     {
         match Self::under_limit(alloc, blank, space, shares, limit) {
@@ -118,19 +106,15 @@ impl<L: Law> Shared<L> {
         shares: usize,
         limit: Option<u64>,
     ) -> Result<(Shared<L>, Vec<Share<L>>), (AllocError, Blank, TxnSpace)>
-        requires name { blank.name ≡ L.name }
-        requires parts { blank.parts ≡ L.parts }
-        requires shares { shares ≡ L.parts }
-        requires lawful { L.lawful (content_of space) space.commits }
-        requires fresh { space.commits ≡ 0 }
-        requires limit { limit ≡ L.limit }
-        requires reached { L.reached (place_of space shares 0 (is_reached limit 0)) }
+        requires blank { IsBlankFor L.name L.parts blank shares }
+        requires limit { L.limit ≡ limit }
+        requires space { MayOpen L.lawful limit L.reached space shares }
         ensures shares { IfOk result (λ made. made.1.items ≡ replicate shares 0) }
         ensures handed_back { IfErr result (λ back. (back.1 ≡ blank) × (back.2 ≡ space)) }
     {
-        let (limited, handed) = Limited::new(alloc, blank, space, shares, limit)?;
+        let (alone, handed) = Alone::limited(alloc, blank, space, shares, limit)?;
         let shared = Shared {
-            limited: Mutex::new(CachePadded::new(CachePadded::new(limited))),
+            alone: Mutex::new(CachePadded::new(CachePadded::new(alone))),
             changed: Condvar::new(),
         };
         Ok((shared, handed))
@@ -148,7 +132,7 @@ impl<L: Law> Shared<L> {
         ensures handed_back { IfErr result (λ back. back.1 ≡ tuple) }
         ensures kind { IfErr result (λ back. IsOutError back.0) }
     {
-        let put = locked(rt, &self.limited).out(tuple, lease);
+        let put = locked(rt, &self.alone).out(tuple, lease);
         self.changed.notify_all();
         put
     }
@@ -158,7 +142,7 @@ impl<L: Law> Shared<L> {
         requires { IsFree L.lawful L.allowed }
         ensures { IfSome result (λ found. Matches template.now found.1) }
     {
-        locked(rt, &self.limited).inp(template)
+        locked(rt, &self.alone).inp(template)
     }
 
     /// Copies a tuple, outside all transactions, or returns `None` if none is available now. Refusal: 50.
@@ -170,7 +154,7 @@ impl<L: Law> Shared<L> {
         ensures matches { IfOk result (λ found. IfSome found (λ pair. Matches template.now pair.1)) }
         ensures kind { IfErr result (λ error. error ≡ SpaceError.OutOfMemory) }
     {
-        locked(rt, &self.limited).rdp(template)
+        locked(rt, &self.alone).rdp(template)
     }
 
     /// Waits until a matching tuple is available, and takes it, outside all transactions. Refusal: 34 if the space is
@@ -180,15 +164,15 @@ impl<L: Law> Shared<L> {
         ensures matches { IfOk result (λ found. Matches template.now found.1) }
         ensures kind { IfErr result (λ error. error ≡ SharedError.Closed) }
     {
-        let mut limited = locked(rt, &self.limited);
+        let mut alone = locked(rt, &self.alone);
         for _ in rt.forever() {
-            if let Some(found) = limited.inp(template) {
+            if let Some(found) = alone.inp(template) {
                 return Ok(found);
             }
-            if limited.is_closed() {
+            if alone.is_closed() {
                 return Err(SharedError::Closed);
             }
-            limited = self.changed.wait(rt, limited);
+            alone = self.changed.wait(rt, alone);
         }
         unreachable!()
     }
@@ -198,15 +182,15 @@ impl<L: Law> Shared<L> {
     pub fn rd<R: Wait>(&self, rt: &R, template: &Template) -> Result<(EntryId, Tuple), SharedError>
         ensures { IfOk result (λ found. Matches template.now found.1) }
     {
-        let mut limited = locked(rt, &self.limited);
+        let mut alone = locked(rt, &self.alone);
         for _ in rt.forever() {
-            match limited.rdp(template) {
+            match alone.rdp(template) {
                 Ok(Some(found)) => return Ok(found),
-                Ok(None) if limited.is_closed() => return Err(SharedError::Closed),
+                Ok(None) if alone.is_closed() => return Err(SharedError::Closed),
                 Ok(None) => {}
                 Err(_) => return Err(SharedError::OutOfMemory),
             }
-            limited = self.changed.wait(rt, limited);
+            alone = self.changed.wait(rt, alone);
         }
         unreachable!()
     }
@@ -216,7 +200,7 @@ impl<L: Law> Shared<L> {
         ensures empty { IfOk result (λ txn. (txn.marks ≡ []) × (txn.writes ≡ [])) }
         ensures kind { IfErr result IsBeginError }
     {
-        locked(rt, &self.limited).begin(asked)
+        locked(rt, &self.alone).begin(asked)
     }
 
     /// Likewise in spare memory, if there is some, so that none is allocated for what the transaction will hold. If
@@ -230,7 +214,7 @@ impl<L: Law> Shared<L> {
         ensures empty { IfOk result (λ txn. (txn.marks ≡ []) × (txn.writes ≡ [])) }
         ensures kind { IfErr result IsBeginError }
     {
-        locked(rt, &self.limited).begin_in(asked, spare)
+        locked(rt, &self.alone).begin_in(asked, spare)
     }
 
     /// Takes for a transaction a tuple matching the template, or returns `None` if none is available now. Refusals: 31,
@@ -245,7 +229,7 @@ impl<L: Law> Shared<L> {
         ensures marks { Finds (InLawful L.lawful) true template.now txn.old (find_answer result) txn.new }
         ensures kind { IfErr result IsFindError }
     {
-        locked(rt, &self.limited).inp_in(txn, template)
+        locked(rt, &self.alone).inp_in(txn, template)
     }
 
     /// Reads for a transaction a tuple matching the template, or returns `None` if none is available now. Refusals: 31,
@@ -260,7 +244,7 @@ impl<L: Law> Shared<L> {
         ensures marks { Finds (InLawful L.lawful) false template.now txn.old (find_answer result) txn.new }
         ensures kind { IfErr result IsFindError }
     {
-        locked(rt, &self.limited).rdp_in(txn, template)
+        locked(rt, &self.alone).rdp_in(txn, template)
     }
 
     /// Commits a transaction, and counts that in the share. What the transaction took, read and wrote must be allowed.
@@ -278,10 +262,10 @@ impl<L: Law> Shared<L> {
         ensures handed_back { IfErr result (λ back. back.1 ≡ txn) }
         ensures kind { IfErr result (λ back. IsCommitError L.limit back.0) }
     {
-        let mut limited = locked(rt, &self.limited);
-        let ended = limited.commit(share, txn);
-        let spent = limited.take_spent();
-        drop(limited);
+        let mut alone = locked(rt, &self.alone);
+        let ended = alone.commit(share, txn);
+        let spent = alone.take_spent();
+        drop(alone);
         self.changed.notify_all();
         drop(spent);
         ended
@@ -292,10 +276,10 @@ impl<L: Law> Shared<L> {
         ensures handed_back { IfErr result (λ back. back.1 ≡ txn) }
         ensures kind { IfErr result (λ back. IsAbortError back.0) }
     {
-        let mut limited = locked(rt, &self.limited);
-        let ended = limited.abort(txn);
-        let spent = limited.take_spent();
-        drop(limited);
+        let mut alone = locked(rt, &self.alone);
+        let ended = alone.abort(txn);
+        let spent = alone.take_spent();
+        drop(alone);
         self.changed.notify_all();
         drop(spent);
         ended
@@ -306,7 +290,7 @@ impl<L: Law> Shared<L> {
     pub fn advance<R: Wait>(&self, rt: &R, moment: u64) -> Result<(), SpaceError>
         ensures { MatchResult result (λ _. moment ≤ most) (λ error. (most < moment) × (error ≡ SpaceError.Exhausted)) }
     {
-        let moved = locked(rt, &self.limited).advance(moment);
+        let moved = locked(rt, &self.alone).advance(moment);
         self.changed.notify_all();
         moved
     }
@@ -314,14 +298,14 @@ impl<L: Law> Shared<L> {
     /// Closes the space if no existing entry's tuple matches the template, or every worker has left, and returns
     /// whether it is closed. A closed space stays closed. Allocates nothing.
     pub fn close<R: Wait>(&self, rt: &R, template: &Template) -> bool {
-        let closed = locked(rt, &self.limited).close(template);
+        let closed = locked(rt, &self.alone).close(template);
         self.changed.notify_all();
         closed
     }
 
     /// Closes the space, regardless of its content and of its workers. A closed space stays closed. Allocates nothing.
     pub fn shut<R: Wait>(&self, rt: &R) {
-        locked(rt, &self.limited).shut();
+        locked(rt, &self.alone).shut();
         self.changed.notify_all();
     }
 
@@ -330,28 +314,28 @@ impl<L: Law> Shared<L> {
     pub fn closed<R: Wait>(&self, rt: &R) -> bool
         ensures { L.limit ≡ Some 0 → result ≡ true }
     {
-        locked(rt, &self.limited).is_closed()
+        locked(rt, &self.alone).is_closed()
     }
 
     /// Makes steps in a row under one acquisition of the lock, and then wakes those who wait. Each is one call on the
     /// space, as if it had been made separately, except that other threads' calls come before or after all of them.
     pub fn together<R: Wait, S: Steps<L>>(&self, rt: &R, steps: &mut S) {
-        let mut limited = locked(rt, &self.limited);
-        steps.make(&mut ***limited);
-        let spent = limited.take_spent();
-        drop(limited);
+        let mut alone = locked(rt, &self.alone);
+        steps.make(&mut ***alone);
+        let spent = alone.take_spent();
+        drop(alone);
         self.changed.notify_all();
         drop(spent);
     }
 
     /// Lets the space be looked at under one taking of the lock.
     pub fn look<R: Wait, W: Look<L>>(&self, rt: &R, looks: &mut W) {
-        looks.look(&***locked(rt, &self.limited));
+        looks.look(&***locked(rt, &self.alone));
     }
 
     /// One more worker has left. Allocates nothing.
     pub fn leave<R: Wait>(&self, rt: &R) {
-        locked(rt, &self.limited).leave();
+        locked(rt, &self.alone).leave();
         self.changed.notify_all();
     }
 
@@ -366,11 +350,8 @@ impl<L: Law> Shared<L> {
         ensures within { IsWithin L.limit result.0.commits }
         ensures reached { IsReached L.reached result.0 }
     {
-        let Shared {
-            limited,
-            changed: _,
-        } = self;
-        limited
+        let Shared { alone, changed: _ } = self;
+        alone
             .into_inner()
             .into_inner()
             .into_inner()

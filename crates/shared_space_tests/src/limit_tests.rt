@@ -3,6 +3,7 @@
 
 ghost use Rattle.std.specs.Prelude.{◌≡◌, IfOk, Some, vec_len};
 ghost use Rattle.shared_space.specs.Law.{IsFree};
+ghost use Rattle.shared_space.specs.Opening.{IsBlankFor};
 ghost use Rattle.shared_space.specs.Place.{Place};
 
 use crate::tests::{count_jobs, job};
@@ -38,9 +39,7 @@ fn new_limited<L: Law>(
     shares: usize,
     limit: u64,
 ) -> Result<(Shared<L>, Vec<Share<L>>), Fail>
-    requires name { blank.name ≡ L.name }
-    requires parts { blank.parts ≡ L.parts }
-    requires all { blank.parts ≡ shares }
+    requires blank { IsBlankFor L.name L.parts blank shares }
     requires limit { L.limit ≡ Some limit }
     requires free { IsFree L.lawful L.allowed }
     requires reached { (p : Place) → L.reached p }
@@ -112,9 +111,7 @@ fn write_three<L: Law, R: Wait>(
     blank: Blank,
     limit: u64,
 ) -> Result<Met, Fail>
-    requires name { blank.name ≡ L.name }
-    requires parts { blank.parts ≡ L.parts }
-    requires one { blank.parts ≡ 1 }
+    requires blank { IsBlankFor L.name L.parts blank 1 }
     requires limit { L.limit ≡ Some limit }
     requires free { IsFree L.lawful L.allowed }
     requires reached { (p : Place) → L.reached p }
@@ -138,9 +135,7 @@ fn race_in_four<L: Law + Send + Sync, R: Threads + Wait + Sync>(
     blank: Blank,
     limit: u64,
 ) -> Result<[u64; 3], Fail>
-    requires name { blank.name ≡ L.name }
-    requires parts { blank.parts ≡ L.parts }
-    requires four { blank.parts ≡ 4 }
+    requires blank { IsBlankFor L.name L.parts blank 4 }
     requires limit { L.limit ≡ Some limit }
     requires free { IsFree L.lawful L.allowed }
     requires reached { (p : Place) → L.reached p }

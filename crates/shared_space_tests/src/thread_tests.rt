@@ -1,5 +1,6 @@
 ghost use Rattle.std.specs.Prelude.{◌≡◌, IfOk, None, vec_len};
 ghost use Rattle.shared_space.specs.Law.{IsFree};
+ghost use Rattle.shared_space.specs.Opening.{IsBlankFor};
 ghost use Rattle.shared_space.specs.Place.{Place};
 
 use crate::tests::{any_job, count_jobs, job, write};
@@ -29,9 +30,7 @@ fn new_shared<L: Law>(
     blank: Blank,
     shares: usize,
 ) -> Result<(Shared<L>, Vec<Share<L>>), Fail>
-    requires name { blank.name ≡ L.name }
-    requires parts { blank.parts ≡ L.parts }
-    requires all { blank.parts ≡ shares }
+    requires blank { IsBlankFor L.name L.parts blank shares }
     requires limit { L.limit ≡ None }
     requires free { IsFree L.lawful L.allowed }
     requires reached { (p : Place) → L.reached p }
@@ -133,10 +132,8 @@ fn count_in_four<L: Law + Send + Sync, R: Threads + Wait + Sync>(
     alloc: Global,
     blank: Blank,
 ) -> Result<[u64; 3], Fail>
-    requires name { blank.name ≡ L.name }
-    requires parts { blank.parts ≡ L.parts }
+    requires blank { IsBlankFor L.name L.parts blank 4 }
     requires limit { L.limit ≡ None }
-    requires four { blank.parts ≡ 4 }
     requires free { IsFree L.lawful L.allowed }
     requires reached { (p : Place) → L.reached p }
 {
@@ -201,10 +198,8 @@ fn wait_for_job<L: Law + Send + Sync, R: Threads + Wait + Sync>(
     alloc: Global,
     blank: Blank,
 ) -> Result<(Option<i128>, Option<SharedError>), Fail>
-    requires name { blank.name ≡ L.name }
-    requires parts { blank.parts ≡ L.parts }
+    requires blank { IsBlankFor L.name L.parts blank 1 }
     requires limit { L.limit ≡ None }
-    requires one { blank.parts ≡ 1 }
     requires free { IsFree L.lawful L.allowed }
     requires reached { (p : Place) → L.reached p }
 {
@@ -244,10 +239,8 @@ fn read_back_in<L: Law, R: Wait>(
     alloc: Global,
     blank: Blank,
 ) -> Result<(Option<i128>, Option<i128>, bool), Fail>
-    requires name { blank.name ≡ L.name }
-    requires parts { blank.parts ≡ L.parts }
+    requires blank { IsBlankFor L.name L.parts blank 1 }
     requires limit { L.limit ≡ None }
-    requires one { blank.parts ≡ 1 }
     requires free { IsFree L.lawful L.allowed }
     requires reached { (p : Place) → L.reached p }
 {
@@ -322,10 +315,8 @@ fn close_in<L: Law, R: Wait>(
     alloc: Global,
     blank: Blank,
 ) -> Result<([bool; 3], Option<SharedError>, Option<i128>), Fail>
-    requires name { blank.name ≡ L.name }
-    requires parts { blank.parts ≡ L.parts }
+    requires blank { IsBlankFor L.name L.parts blank 1 }
     requires limit { L.limit ≡ None }
-    requires one { blank.parts ≡ 1 }
     requires free { IsFree L.lawful L.allowed }
     requires reached { (p : Place) → L.reached p }
 {
@@ -395,10 +386,8 @@ fn end_in<L: Law, R: Wait>(
     ),
     Fail,
 >
-    requires name { blank.name ≡ L.name }
-    requires parts { blank.parts ≡ L.parts }
+    requires blank { IsBlankFor L.name L.parts blank 1 }
     requires limit { L.limit ≡ None }
-    requires one { blank.parts ≡ 1 }
     requires free { IsFree L.lawful L.allowed }
     requires reached { (p : Place) → L.reached p }
 {

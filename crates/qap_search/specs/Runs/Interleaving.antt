@@ -1,5 +1,5 @@
 -- Schedules of workers' turns, and the runs of a search that follow them.
-use Rattle.std.specs.Prelude.{◌≡◌, ℕ, ◌+◌, ◌-◌, ◌^◌, min, Bool, true, false, List, [], ◌∷◌, map, replicate, set, slice_get, Option, Some, None, Ok}
+use Rattle.std.specs.Prelude.{◌≡◌, ℕ, ◌+◌, ◌-◌, ◌^◌, min, Bool, true, false, List, [], ◌∷◌, All, map, replicate, set, slice_get, Option, Some, None, Ok}
 use Rattle.tuple_space.specs.Step.{Reply}
 use Rattle.shared_space.specs.Event.{Did, advance, moved}
 use Rattle.shared_space.specs.Place.{Place, place_of}
@@ -22,6 +22,10 @@ pub record PostValue : Type 0 where
   pub hand : HandValue
   pub accepted : ℕ
   pub refused : ℕ
+
+-- no worker has an evaluation due
+abbrev pub AreReady : List PostValue → Type 0
+AreReady posts = All (λ p. is_due p.hand.stage ≡ false) posts
 
 -- a run at one moment: the workers' states in order, and the space
 pub record Moment : Type 0 where

@@ -15,6 +15,7 @@ use Rattle.qap_search.specs.Worker.Prepared.{HasPrepared}
 use Rattle.qap_search.specs.Law.SearchLaw.{IsSearchLaw}
 use Rattle.qap_search.specs.Node.Thought.{IsThought, ThoughtValue}
 use Rattle.qap_search.specs.declared.worker.job.Job.{Job}
+use Rattle.qap_search.specs.declared.worker.prepared.Prepared.{Prepared}
 use Rattle.qap_search.specs.declared.worker.stage.LastThought.{LastThought}
 use Rattle.qap_search.specs.declared.worker.stage.Stage.{Stage}
 use Rattle.qap_search.specs.declared.worker.stage.Tools.{Tools}
@@ -73,6 +74,12 @@ pub record IsHand (I : Problem) (tools : Tools) (last : Option LastThought) (sta
 -- such a worker, on a space that holds the search of its instance
 abbrev pub IsSearchHand : (Content → ℕ → Type 0) → (Content → Content → Content → Type 0) → Tools → Option LastThought → Stage → Type 0
 IsSearchHand lawful allowed tools last stage = (I : Problem) × IsHand I tools last stage × IsSearchLaw I lawful allowed
+
+-- a worker with what is prepared for its next step, on a space that holds the search of I
+pub record IsAtWork (I : Problem) (lawful : Content → ℕ → Type 0) (allowed : Content → Content → Content → Type 0) (tools : Tools) (last : Option LastThought) (prepared : Prepared) (stage : Stage) : Type 0 where
+  pub hand : IsHand I tools last stage
+  pub ready : HasPrepared I last prepared
+  pub law : IsSearchLaw I lawful allowed
 
 -- what holds for each node on which a worker is working
 pub record IsJob (I : Problem) (tools : Tools) (j : Job) : Type 0 where

@@ -1,5 +1,5 @@
 -- A worker's step: one call on the room, and the worker's state after each reply.
-use Rattle.std.specs.Prelude.{◌≡◌, ◌⊎◌, ℕ, ◌+◌, ◌-◌, ◌^◌, min, ◌==◌, Bool, true, false, List, find, length, ℤ, ◌<ℤ◌, Some, Result, Ok, Err, IsErr}
+use Rattle.std.specs.Prelude.{◌≡◌, ◌⊎◌, ℕ, ◌+◌, ◌-◌, ◌^◌, min, ◌==◌, Bool, true, false, List, find, length, ℤ, ◌<ℤ◌, Option, Some, Result, Ok, Err, IsErr}
 use Rattle.std.specs.declared.alloc.AllocError.{AllocError}
 use Rattle.space_txn.specs.Content.{SameItems, added_of}
 use Rattle.space_txn.specs.Machine.{Answer, Call, found, nothing, done, refused, inp_in, rdp_in, commit, abort}
@@ -15,12 +15,14 @@ use Rattle.qap_cost.specs.Instance.{Problem}
 use Rattle.tuple_match.specs.FieldValue.{FieldValue}
 use Rattle.qap_search.specs.Node.Decision.{DecidesBeside, DecidesBy, IsBetterOf}
 use Rattle.qap_search.specs.Tuples.Found.{best_template}
-use Rattle.qap_search.specs.Worker.Hand.{HandValue, is_hopeful}
+use Rattle.qap_search.specs.Worker.Hand.{HandValue, hand_of, is_hopeful}
 use Rattle.qap_search.specs.Tuples.Piece.{node_template}
 use Rattle.qap_search.specs.Law.Replacement.{Best, tuple_of}
 use Rattle.qap_search.specs.Node.Thought.{ThoughtValue}
+use Rattle.qap_search.specs.declared.worker.stage.Outcome.{Outcome}
 use Rattle.qap_search.specs.declared.worker.stage.Stage.{Stage}
 use Rattle.qap_search.specs.declared.worker.stage.Stage.TheVariants.{Idle, Begun, Taken, Considered, Ready, GivingUp}
+use Rattle.qap_search.specs.declared.worker.stage.Tally.{Tally}
 
 -- the report of a step: whether it met no refusal, or memory ran out
 abbrev pub Told : Type 0
@@ -170,3 +172,13 @@ TurnAt did old (Taken t number) before told new after = ⊥
 -- a step of a worker from its current stage
 abbrev pub Turn : {R : Type 0} → (R → Event → Reply → R → Type 0) → HandValue → R → Told → HandValue → R → Type 0
 Turn did old before told new after = TurnAt did old old.stage before told new after
+
+-- the same by the parts of a worker: a step from this stage has this outcome
+abbrev pub TurnsInto : {R : Type 0} → (R → Event → Reply → R → Type 0) → Problem → ℕ → Option ThoughtValue → Stage → Tally → R → Outcome → R → Type 0
+TurnsInto did I lease last stage tally before outcome after =
+    Turn did (hand_of I lease last stage tally) before outcome.told (hand_of I lease last outcome.stage outcome.tally) after
+
+-- the same of what follows the call that looks for the incumbent
+abbrev pub FindsBest : Bool → Problem → ℕ → ThoughtValue → TxnValue → Tally → Answer → TxnValue → Outcome → Type 0
+FindsBest taking I lease last old tally answer t outcome =
+    AfterBest taking (hand_of I lease (Some last) (Considered old) tally) answer t outcome.told (hand_of I lease (Some last) outcome.stage outcome.tally)

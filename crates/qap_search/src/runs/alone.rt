@@ -5,9 +5,10 @@ ghost use Rattle.std.specs.Arc.{arc_value};
 ghost use Rattle.qap_search.specs.Runs.Answer.{IsAnswer, IsSolveFault};
 ghost use Rattle.qap_search.specs.Runs.Outcome.{IsEnded};
 ghost use Rattle.qap_search.specs.Runs.Opening.{IsOpening};
+ghost use Rattle.qap_search.specs.Runs.Seat.{HasShare};
 ghost use Rattle.qap_search.specs.Law.Search.{Search, whole};
 ghost use Rattle.qap_search.specs.Law.SearchLaw.{IsLawOf, IsSearchLaw};
-ghost use Rattle.space_txn.specs.Content.{content_of};
+ghost use Rattle.shared_space.specs.Opening.{IsBlankFor, MayOpen, opened};
 
 use crate::certificate::closing_threads::One;
 use crate::runs::answer::{Answer, SolveError};
@@ -55,11 +56,11 @@ fn search<L: Law, R: Wait>(
     blank: Blank,
     lease_ms: u64,
 ) -> Result<Run, AllocError>
-    requires name { blank.name ≡ L.name }
-    requires parts { blank.parts ≡ L.parts }
-    requires one { blank.parts ≡ 1 }
+    requires blank { IsBlankFor L.name L.parts blank 1 }
     requires law { IsLawOf (whole instance.now) L.lawful L.allowed }
+    requires limit { L.limit ≡ None }
     requires opening { IsOpening (whole instance.now) space }
+    requires reached { L.reached (opened space 1 None) }
     ensures ended { IfOk result (IsEnded (whole instance.now) None) }
     ensures one { IfOk result (λ run. length run.reports.items ≡ 1) }
 {
@@ -75,11 +76,9 @@ fn room_alone<L: Law>(
     blank: Blank,
     space: TxnSpace,
 ) -> Result<(Alone<L>, Vec<Share<L>>), AllocError>
-    requires name { blank.name ≡ L.name }
-    requires parts { blank.parts ≡ L.parts }
-    requires one { L.parts ≡ 1 }
-    requires lawful { L.lawful (content_of space) space.commits }
-    requires fresh { space.commits ≡ 0 }
+    requires blank { IsBlankFor L.name L.parts blank 1 }
+    requires limit { L.limit ≡ None }
+    requires space { MayOpen L.lawful None L.reached space 1 }
     ensures { IfOk result (λ made. made.1.items ≡ 0 ∷ []) }
 {
     match Alone::<L>::new(alloc, blank, space, 1) {
@@ -140,8 +139,7 @@ fn work<L: Law, R: Wait>(
     share: &mut Share<L>,
     nodes: &Template,
 ) -> Ended
-    requires law { IsSearchLaw hand.old.instance L.lawful L.allowed }
-    requires counted { hand.old.accepted ≡ share.old }
+    requires { HasShare L.lawful L.allowed hand.old share.old }
     ensures { hand.new.accepted ≡ share.new }
 {
     for _ in rt.forever() {

@@ -1,9 +1,9 @@
 //! Runs of a search by a schedule: turns of workers, moments and losses in any order.
 
-ghost use Rattle.std.specs.Prelude.{◌≡◌, ◌<◌, ◌≤◌, false, All, IfOk, OnOk, ℕ, map, replicate, slice_get, vec_len};
+ghost use Rattle.std.specs.Prelude.{◌≡◌, ◌<◌, ◌≤◌, All, IfOk, None, OnOk, ℕ, map, replicate, slice_get, vec_len};
 ghost use Rattle.std.specs.Arc.{arc_value};
-ghost use Rattle.qap_search.specs.Worker.Hand.{is_due};
-ghost use Rattle.qap_search.specs.Runs.Interleaving.{IsRun, Moment, Moves, PostValue, TurnOf, beginner, report_of, without_worker};
+ghost use Rattle.qap_search.specs.Runs.Interleaving.{AreReady, IsRun, Moment, Moves, TurnOf, beginner, report_of, without_worker};
+ghost use Rattle.shared_space.specs.Opening.{IsBlankFor, opened};
 ghost use Rattle.shared_space.specs.Place.{Place};
 ghost use Rattle.qap_search.specs.Runs.Opening.{IsOpening};
 ghost use Rattle.qap_search.specs.Law.Search.{whole};
@@ -63,12 +63,12 @@ fn follow<L: Law>(
     workers: u16,
     steps: &[Step],
 ) -> Result<Run, AllocError>
-    requires name { blank.name ≡ L.name }
-    requires parts { blank.parts ≡ L.parts }
-    requires one_each { blank.parts ≡ workers }
+    requires blank { IsBlankFor L.name L.parts blank workers }
     requires few { workers ≤ 64 }
     requires law { IsLawOf (whole instance.now) L.lawful L.allowed }
+    requires limit { L.limit ≡ None }
     requires opening { IsOpening (whole instance.now) space }
+    requires reached { L.reached (opened space workers None) }
     ensures { IfOk result (IsRun instance.now workers steps.now) }
 {
     let rows = shared_rows(alloc, instance)?;
@@ -94,6 +94,7 @@ fn posts_for<L: Law>(
     shares: Vec<Share<L>>,
 ) -> Result<Vec<Post<L>>, AllocError>
     requires law { IsSearchLaw (arc_value rows.now) L.lawful L.allowed }
+    requires limit { L.limit ≡ None }
     requires fresh { All (λ (n : ℕ). n ≡ 0) shares.items }
     requires few { vec_len shares ≤ 64 }
     ensures { IfOk result (λ posts. posts.items ≡ replicate (vec_len shares) (beginner (arc_value rows.now) 1000)) }
@@ -117,10 +118,10 @@ fn make<L: Law>(
     room: &mut Alone<L>,
 ) -> Result<(), AllocError>
     requires law { IsSearchLaw (arc_value rows.now) L.lawful L.allowed }
-    requires ready { All (λ (p : PostValue). is_due p.hand.stage ≡ false) posts.old.items }
+    requires ready { AreReady posts.old.items }
     ensures moves { let old : Moment = record { posts = posts.old.items; place = room.old } in let new : Moment = record { posts = posts.new.items; place = room.new } in
         OnOk result (Moves (arc_value rows.now) 1000 old step new) }
-    ensures ready { OnOk result (All (λ (p : PostValue). is_due p.hand.stage ≡ false) posts.new.items) }
+    ensures ready { OnOk result (AreReady posts.new.items) }
 {
     match step {
         Step::Turn(worker) => turn(usize::from(worker), posts, room),
@@ -138,10 +139,10 @@ fn turn<L: Law>(
     posts: &mut Vec<Post<L>>,
     room: &mut Alone<L>,
 ) -> Result<(), AllocError>
-    requires { All (λ (p : PostValue). is_due p.hand.stage ≡ false) posts.old.items }
+    requires { AreReady posts.old.items }
     ensures turn { let old : Moment = record { posts = posts.old.items; place = room.old } in let new : Moment = record { posts = posts.new.items; place = room.new } in
         OnOk result (TurnOf (slice_get posts.old.items worker) worker old new) }
-    ensures ready { OnOk result (All (λ (p : PostValue). is_due p.hand.stage ≡ false) posts.new.items) }
+    ensures ready { OnOk result (AreReady posts.new.items) }
 {
     if worker < posts.len() {
         posts[worker].turn(room)?;
@@ -157,10 +158,10 @@ fn lose<L: Law>(
     posts: &mut Vec<Post<L>>,
 ) -> Result<(), AllocError>
     requires law { IsSearchLaw (arc_value rows.now) L.lawful L.allowed }
-    requires ready { All (λ (p : PostValue). is_due p.hand.stage ≡ false) posts.old.items }
+    requires ready { AreReady posts.old.items }
     ensures lost { (place : Place) → let old : Moment = record { posts = posts.old.items; place = place } in let new : Moment = record { posts = posts.new.items; place = place } in
         OnOk result (new ≡ without_worker (arc_value rows.now) 1000 (slice_get posts.old.items worker) worker old) }
-    ensures ready { OnOk result (All (λ (p : PostValue). is_due p.hand.stage ≡ false) posts.new.items) }
+    ensures ready { OnOk result (AreReady posts.new.items) }
 {
     if worker < posts.len() {
         posts[worker].lose(alloc, rows, LEASE_MS)?;

@@ -1,8 +1,10 @@
 //! The place of one worker in a run by a schedule.
 
-ghost use Rattle.std.specs.Prelude.{◌≡◌, ◌+◌, ◌≤◌, false, IfOk, OnOk};
+ghost use Rattle.std.specs.Prelude.{◌≡◌, ◌+◌, ◌≤◌, false, IfOk, None, OnOk};
 ghost use Rattle.std.specs.Arc.{arc_value};
 ghost use Rattle.qap_search.specs.Worker.Hand.{is_due};
+ghost use Rattle.qap_search.specs.Worker.Turn.{Turn};
+ghost use Rattle.shared_space.specs.Event.{Did};
 ghost use Rattle.qap_search.specs.Runs.Interleaving.{TakesTurn, after_loss, beginner, report_of};
 ghost use Rattle.qap_search.specs.Law.SearchLaw.{IsSearchLaw};
 
@@ -10,7 +12,7 @@ use crate::worker::gate::Always;
 use crate::worker::hand::Hand;
 use crate::worker::report::{Ended, Report};
 use gilmore_lawler::RankedInstance;
-use shared_space::{Alone, Law, Share};
+use shared_space::{Alone, Law, Share, no_limit_law};
 use std::alloc::{AllocError, Global};
 use std::marker::Model;
 use std::sync::Arc;
@@ -26,7 +28,7 @@ pub(crate) struct Post<L: Law> {
 }
 
 impl<L: Law> Model for Post<L> {
-    ghost use Rattle.std.specs.Prelude.{◌≡◌, ◌+◌};
+    ghost use Rattle.std.specs.Prelude.{◌≡◌, ◌+◌, None};
     ghost use Rattle.qap_search.specs.Runs.Interleaving.{PostValue};
     ghost use Rattle.qap_search.specs.Law.SearchLaw.{IsSearchLaw};
 
@@ -34,7 +36,7 @@ impl<L: Law> Model for Post<L> {
 
     ghost view = { λ p. record { hand = p.hand; accepted = p.accepted; refused = p.refused } };
 
-    ghost invariant = { λ p. IsSearchLaw p.hand.instance L.lawful L.allowed × (p.accepted + p.hand.accepted ≡ p.share) };
+    ghost invariant = { λ p. IsSearchLaw p.hand.instance L.lawful L.allowed × (L.limit ≡ None) × (p.accepted + p.hand.accepted ≡ p.share) };
 }
 
 impl<L: Law> Post<L> {
@@ -47,6 +49,7 @@ impl<L: Law> Post<L> {
         share: Share<L>,
     ) -> Result<Post<L>, AllocError>
         requires law { IsSearchLaw (arc_value rows.now) L.lawful L.allowed }
+        requires limit { L.limit ≡ None }
         requires fresh { share ≡ 0 }
         ensures { IfOk result (λ post. post ≡ beginner (arc_value rows.now) lease_ms) }
     {
@@ -99,12 +102,14 @@ impl<L: Law> Post<L> {
     }
 }
 
+/// The worker's next step, and the evaluation that it calls for.
 fn take_turn<L: Law>(
     hand: &mut Hand,
     share: &mut Share<L>,
     room: &mut Alone<L>,
 ) -> Result<(), AllocError>
     requires law { IsSearchLaw hand.old.instance L.lawful L.allowed }
+    requires limit { L.limit ≡ None }
     requires not_due { is_due hand.old.stage ≡ false }
     requires counted { hand.old.accepted ≤ share.old }
     ensures turn { OnOk result (TakesTurn hand.old room.old hand.new room.new) }
@@ -112,9 +117,27 @@ fn take_turn<L: Law>(
     ensures counted { share.new + hand.old.accepted ≡ share.old + hand.new.accepted }
     ensures instance { hand.new.instance ≡ hand.old.instance }
 {
-    hand.step(room, share)?;
+    step(hand, share, room)?;
     if hand.thinks() {
         hand.think(&Always)?;
     }
     Ok(())
+}
+
+/// The worker's next step, as one of the machine.
+fn step<L: Law>(
+    hand: &mut Hand,
+    share: &mut Share<L>,
+    room: &mut Alone<L>,
+) -> Result<bool, AllocError>
+    requires law { IsSearchLaw hand.old.instance L.lawful L.allowed }
+    requires limit { L.limit ≡ None }
+    requires not_due { is_due hand.old.stage ≡ false }
+    requires counted { hand.old.accepted ≤ share.old }
+    ensures turn { Turn Did hand.old room.old result hand.new room.new }
+    ensures counted { share.new + hand.old.accepted ≡ share.old + hand.new.accepted }
+    ensures instance { hand.new.instance ≡ hand.old.instance }
+{
+    no_limit_law();
+    hand.step(room, share)
 }

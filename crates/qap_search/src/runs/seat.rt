@@ -1,7 +1,7 @@
 //! A worker with its share, and its run on a shared space.
 
 ghost use Rattle.std.specs.Prelude.{◌≡◌};
-ghost use Rattle.qap_search.specs.Law.SearchLaw.{IsSearchLaw};
+ghost use Rattle.qap_search.specs.Runs.Seat.{HasShare, KeepsShare};
 
 use crate::worker::gate::{Gate, Kind};
 use crate::worker::hand::Hand;
@@ -44,21 +44,20 @@ pub(crate) struct Seat<L: Law> {
 }
 
 impl<L: Law> Model for Seat<L> {
-    ghost use Rattle.std.specs.Prelude.{◌≡◌, ℕ};
-    ghost use Rattle.qap_search.specs.Law.SearchLaw.{IsSearchLaw};
+    ghost use Rattle.std.specs.Prelude.{ℕ};
+    ghost use Rattle.qap_search.specs.Runs.Seat.{HasShare};
 
     ghost Value = { ℕ };
 
     ghost view = { λ s. s.share };
 
-    ghost invariant = { λ s. IsSearchLaw s.hand.instance L.lawful L.allowed × (s.hand.accepted ≡ s.share) };
+    ghost invariant = { λ s. HasShare L.lawful L.allowed s.hand s.share };
 }
 
 impl<L: Law> Seat<L> {
     /// A worker that hasn't begun, with its share.
     pub(crate) fn new(worker: u16, hand: Hand, share: Share<L>) -> Seat<L>
-        requires law { IsSearchLaw hand.instance L.lawful L.allowed }
-        requires counted { hand.accepted ≡ share }
+        requires { HasShare L.lawful L.allowed hand share }
         ensures { result ≡ share }
     {
         Seat {
@@ -170,10 +169,8 @@ fn go_on<L: Law, M: Room<L>>(
     hand: &mut Hand,
     share: &mut Share<L>,
 ) -> Result<Option<Lack>, Ended>
-    requires law { IsSearchLaw hand.old.instance L.lawful L.allowed }
-    requires before { hand.old.accepted ≡ share.old }
-    ensures counted { hand.new.accepted ≡ share.new }
-    ensures instance { hand.new.instance ≡ hand.old.instance }
+    requires { HasShare L.lawful L.allowed hand.old share.old }
+    ensures { KeepsShare hand.old hand.new share.new }
 {
     if !commit_all(room, hand, share)? {
         return Ok(Some(Lack::Best));
@@ -194,10 +191,8 @@ fn commit_all<L: Law, M: Room<L>>(
     hand: &mut Hand,
     share: &mut Share<L>,
 ) -> Result<bool, Ended>
-    requires law { IsSearchLaw hand.old.instance L.lawful L.allowed }
-    requires before { hand.old.accepted ≡ share.old }
-    ensures counted { hand.new.accepted ≡ share.new }
-    ensures instance { hand.new.instance ≡ hand.old.instance }
+    requires { HasShare L.lawful L.allowed hand.old share.old }
+    ensures { KeepsShare hand.old hand.new share.new }
 {
     let mut found = commit(room, hand, share)?;
     for other in 0..hand.others() {
@@ -215,10 +210,8 @@ fn commit<L: Law, M: Room<L>>(
     hand: &mut Hand,
     share: &mut Share<L>,
 ) -> Result<bool, Ended>
-    requires law { IsSearchLaw hand.old.instance L.lawful L.allowed }
-    requires before { hand.old.accepted ≡ share.old }
-    ensures counted { hand.new.accepted ≡ share.new }
-    ensures instance { hand.new.instance ≡ hand.old.instance }
+    requires { HasShare L.lawful L.allowed hand.old share.old }
+    ensures { KeepsShare hand.old hand.new share.new }
 {
     step_if(room, hand, share, Kind::ReadBest)?;
     step_if(room, hand, share, Kind::TakeBest)?;
@@ -234,10 +227,8 @@ fn take_all<L: Law, M: Room<L>>(
     hand: &mut Hand,
     share: &mut Share<L>,
 ) -> Result<bool, Ended>
-    requires law { IsSearchLaw hand.old.instance L.lawful L.allowed }
-    requires before { hand.old.accepted ≡ share.old }
-    ensures counted { hand.new.accepted ≡ share.new }
-    ensures instance { hand.new.instance ≡ hand.old.instance }
+    requires { HasShare L.lawful L.allowed hand.old share.old }
+    ensures { KeepsShare hand.old hand.new share.new }
 {
     if !take(room, hand, share)? {
         return Ok(false);
@@ -258,10 +249,8 @@ fn take<L: Law, M: Room<L>>(
     hand: &mut Hand,
     share: &mut Share<L>,
 ) -> Result<bool, Ended>
-    requires law { IsSearchLaw hand.old.instance L.lawful L.allowed }
-    requires before { hand.old.accepted ≡ share.old }
-    ensures counted { hand.new.accepted ≡ share.new }
-    ensures instance { hand.new.instance ≡ hand.old.instance }
+    requires { HasShare L.lawful L.allowed hand.old share.old }
+    ensures { KeepsShare hand.old hand.new share.new }
 {
     step_if(room, hand, share, Kind::Begin)?;
     step_if(room, hand, share, Kind::TakeNode)?;
@@ -276,10 +265,8 @@ fn give_up<L: Law, M: Room<L>>(
     hand: &mut Hand,
     share: &mut Share<L>,
 ) -> Result<(), Ended>
-    requires law { IsSearchLaw hand.old.instance L.lawful L.allowed }
-    requires before { hand.old.accepted ≡ share.old }
-    ensures counted { hand.new.accepted ≡ share.new }
-    ensures instance { hand.new.instance ≡ hand.old.instance }
+    requires { HasShare L.lawful L.allowed hand.old share.old }
+    ensures { KeepsShare hand.old hand.new share.new }
 {
     step_if(room, hand, share, Kind::Abort)?;
     if let Some(spent) = room.take_spent() {
@@ -295,10 +282,8 @@ fn step_if<L: Law, M: Room<L>>(
     share: &mut Share<L>,
     kind: Kind,
 ) -> Result<(), Ended>
-    requires law { IsSearchLaw hand.old.instance L.lawful L.allowed }
-    requires before { hand.old.accepted ≡ share.old }
-    ensures counted { hand.new.accepted ≡ share.new }
-    ensures instance { hand.new.instance ≡ hand.old.instance }
+    requires { HasShare L.lawful L.allowed hand.old share.old }
+    ensures { KeepsShare hand.old hand.new share.new }
 {
     if hand.thinks() || hand.next() != kind {
         return Ok(());
@@ -318,10 +303,8 @@ fn turn<R: Wait, L: Law, G: Gate>(
     hand: &mut Hand,
     share: &mut Share<L>,
 ) -> Result<(), Ended>
-    requires law { IsSearchLaw hand.old.instance L.lawful L.allowed }
-    requires before { hand.old.accepted ≡ share.old }
-    ensures counted { hand.new.accepted ≡ share.new }
-    ensures instance { hand.new.instance ≡ hand.old.instance }
+    requires { HasShare L.lawful L.allowed hand.old share.old }
+    ensures { KeepsShare hand.old hand.new share.new }
 {
     if hand.thinks() {
         return hand.think(place.gate).map_err(|_| Ended::Memory);
@@ -348,10 +331,8 @@ fn wait_for_best<R: Wait, L: Law, G: Gate>(
     hand: &mut Hand,
     share: &mut Share<L>,
 ) -> Result<(), Ended>
-    requires law { IsSearchLaw hand.old.instance L.lawful L.allowed }
-    requires before { hand.old.accepted ≡ share.old }
-    ensures counted { hand.new.accepted ≡ share.new }
-    ensures instance { hand.new.instance ≡ hand.old.instance }
+    requires { HasShare L.lawful L.allowed hand.old share.old }
+    ensures { KeepsShare hand.old hand.new share.new }
 {
     step(place, worker, Kind::Abort, hand, share)?;
     wait_for(place, place.best)
@@ -365,10 +346,8 @@ fn step<R: Wait, L: Law, G: Gate>(
     hand: &mut Hand,
     share: &mut Share<L>,
 ) -> Result<(), Ended>
-    requires law { IsSearchLaw hand.old.instance L.lawful L.allowed }
-    requires before { hand.old.accepted ≡ share.old }
-    ensures counted { hand.new.accepted ≡ share.new }
-    ensures instance { hand.new.instance ≡ hand.old.instance }
+    requires { HasShare L.lawful L.allowed hand.old share.old }
+    ensures { KeepsShare hand.old hand.new share.new }
 {
     if hand.thinks() {
         return Ok(());

@@ -8,10 +8,8 @@ ghost use Rattle.qap_search.specs.Runs.Opening.{IsOpening};
 ghost use Rattle.qap_search.specs.Runs.Ran.{Ran, RanTo, RanToFault};
 ghost use Rattle.qap_search.specs.Law.Search.{Search, whole};
 ghost use Rattle.qap_search.specs.Law.SearchLaw.{IsLawOf, IsSearchLaw};
-ghost use Rattle.shared_space.specs.Limit.{is_reached};
-ghost use Rattle.shared_space.specs.Place.{place_of};
+ghost use Rattle.shared_space.specs.Opening.{IsBlankFor, MayOpen, opened};
 ghost use Rattle.shared_space.specs.Run.{IsReached};
-ghost use Rattle.space_txn.specs.Content.{content_of};
 ghost use Rattle.std.specs.Arc.{arc_value};
 
 use crate::certificate::closing_threads::Many;
@@ -159,14 +157,12 @@ where
     C: Clock,
     G: Gate + Sync,
     requires some { 0 < crew.workers }
-    requires name { blank.name ≡ L.name }
-    requires parts { blank.parts ≡ L.parts }
-    requires one_each { blank.parts ≡ crew.workers }
+    requires blank { IsBlankFor L.name L.parts blank crew.workers }
     requires few { crew.workers ≤ 64 }
     requires law { IsLawOf (whole instance.now) L.lawful L.allowed }
     requires limit { L.limit ≡ crew.limit }
     requires opening { IsOpening (whole instance.now) space }
-    requires reached { L.reached (place_of space crew.workers 0 (is_reached crew.limit 0)) }
+    requires reached { L.reached (opened space crew.workers crew.limit) }
     ensures ended { IfOk result (IsEnded (whole instance.now) crew.limit) }
     ensures one_each { IfOk result (λ run. length run.reports.items ≡ crew.workers) }
     ensures reached { IfOk result (λ run. IsReached L.reached run.space) }
@@ -209,15 +205,11 @@ fn staff<L: Law>(
     blank: Blank,
     crew: Crew,
 ) -> Result<Staffed<L>, AllocError>
-    requires name { blank.name ≡ L.name }
-    requires parts { blank.parts ≡ L.parts }
-    requires one_each { crew.workers ≡ L.parts }
+    requires blank { IsBlankFor L.name L.parts blank crew.workers }
     requires few { crew.workers ≤ 64 }
     requires law { IsSearchLaw instance.now L.lawful L.allowed }
     requires limit { L.limit ≡ crew.limit }
-    requires lawful { L.lawful (content_of space) space.commits }
-    requires fresh { space.commits ≡ 0 }
-    requires reached { L.reached (place_of space crew.workers 0 (is_reached crew.limit 0)) }
+    requires space { MayOpen L.lawful crew.limit L.reached space crew.workers }
     ensures { IfOk result (λ made. vec_len made.seats ≡ crew.workers) }
 {
     let ranked = shared_rows(alloc, instance)?;

@@ -9,13 +9,13 @@ ghost use Rattle.space_txn.specs.declared.txn.Found.TheVariants.{Entry as Stored
 ghost use Rattle.qap_search.specs.Worker.BestSteps.{AfterWrites, HasBestCost, HasBestMark, HasNoBest, IsBestAt, IsFoundBest, Writes};
 ghost use Rattle.qap_search.specs.Node.Decision.{IsOn};
 ghost use Rattle.qap_search.specs.Tuples.Found.{best_template};
-ghost use Rattle.qap_search.specs.Worker.Hand.{hand_of, is_hopeful, thought_of};
+ghost use Rattle.qap_search.specs.Worker.Hand.{is_hopeful, thought_of};
 ghost use Rattle.qap_search.specs.Worker.Prepared.{IsPrepared};
 ghost use Rattle.qap_search.specs.Law.Replacement.{Best};
 ghost use Rattle.qap_search.specs.Law.SearchLaw.{IsSearchLaw};
 ghost use Rattle.qap_search.specs.Worker.Standing.{HasNode, IsLastThought, IsStage};
 ghost use Rattle.qap_search.specs.Node.Thought.{IsThought};
-ghost use Rattle.qap_search.specs.Worker.Turn.{AfterBest, HasMarksOf, Turn};
+ghost use Rattle.qap_search.specs.Worker.Turn.{FindsBest, HasMarksOf, TurnsInto};
 ghost use Rattle.qap_search.specs.declared.worker.stage.Stage.TheVariants.{Considered};
 
 use crate::node::decision::{decide, decide_anew};
@@ -46,8 +46,7 @@ pub(crate) fn seek_best<L: Law, M: Room<L>>(
     requires thought { IsOn last.now.node last.now.thought }
     ensures turn { (I : Problem) (lease : ℕ) → IsInstance I → IsSearchLaw I L.lawful L.allowed → IsLastThought I last.now →
         IsPrepared I (thought_of last.now) prepared.old → HasNode last.now.node txn →
-        Turn M.did (hand_of I lease (Some (thought_of last.now)) (Considered txn) tally) room.old result.told
-        (hand_of I lease (Some (thought_of last.now)) result.stage result.tally) room.new }
+        TurnsInto M.did I lease (Some (thought_of last.now)) (Considered txn) tally room.old result room.new }
     ensures stage { (I : Problem) → IsInstance I → IsSearchLaw I L.lawful L.allowed → IsLastThought I last.now →
         IsPrepared I (thought_of last.now) prepared.old → HasNode last.now.node txn → IsStage I (Some (thought_of last.now)) result.stage }
     ensures accepted { result.tally.accepted ≡ tally.accepted }
@@ -74,8 +73,7 @@ fn told_best(
     requires { IsOn last.now.node last.now.thought }
     ensures turn { (I : Problem) (lease : ℕ) (old : TxnValue) → IsLastThought I last.now → IsPrepared I (thought_of last.now) prepared.old →
         IsFoundBest I taking last.now.node (find_answer found) txn →
-        AfterBest taking (hand_of I lease (Some (thought_of last.now)) (Considered old) tally) (find_answer found) txn result.told
-        (hand_of I lease (Some (thought_of last.now)) result.stage result.tally) }
+        FindsBest taking I lease (thought_of last.now) old tally (find_answer found) txn result }
     ensures stage { (I : Problem) → IsLastThought I last.now → IsPrepared I (thought_of last.now) prepared.old →
         IsFoundBest I taking last.now.node (find_answer found) txn → IsStage I (Some (thought_of last.now)) result.stage }
     ensures accepted { result.tally.accepted ≡ tally.accepted }
@@ -100,8 +98,7 @@ fn told_found(
     requires { IsOn last.now.node last.now.thought }
     ensures turn { (I : Problem) (lease : ℕ) (old : TxnValue) → IsLastThought I last.now → IsPrepared I (thought_of last.now) prepared.old →
         IsFoundBest I taking last.now.node (found what) txn →
-        AfterBest taking (hand_of I lease (Some (thought_of last.now)) (Considered old) tally) (found what) txn result.told
-        (hand_of I lease (Some (thought_of last.now)) result.stage result.tally) }
+        FindsBest taking I lease (thought_of last.now) old tally (found what) txn result }
     ensures stage { (I : Problem) → IsLastThought I last.now → IsPrepared I (thought_of last.now) prepared.old →
         IsFoundBest I taking last.now.node (found what) txn → IsStage I (Some (thought_of last.now)) result.stage }
     ensures accepted { result.tally.accepted ≡ tally.accepted }
@@ -131,8 +128,7 @@ fn told_read(
     requires { IsOn last.now.node last.now.thought }
     ensures turn { (I : Problem) (lease : ℕ) (old : TxnValue) → IsLastThought I last.now → IsPrepared I (thought_of last.now) prepared.old →
         HasBestMark I false last.now.node id txn →
-        AfterBest false (hand_of I lease (Some (thought_of last.now)) (Considered old) tally) (found (Stored id)) txn result.told
-        (hand_of I lease (Some (thought_of last.now)) result.stage result.tally) }
+        FindsBest false I lease (thought_of last.now) old tally (found (Stored id)) txn result }
     ensures stage { (I : Problem) → IsLastThought I last.now → IsPrepared I (thought_of last.now) prepared.old →
         HasBestMark I false last.now.node id txn → IsStage I (Some (thought_of last.now)) result.stage }
     ensures accepted { result.tally.accepted ≡ tally.accepted }
@@ -159,8 +155,7 @@ fn told_prepared(
     requires prepared { prepared.old.cost ≡ Some cost }
     ensures turn { (I : Problem) (lease : ℕ) (old : TxnValue) → IsLastThought I last.now → IsPrepared I (thought_of last.now) prepared.old →
         HasBestMark I false last.now.node id txn →
-        AfterBest false (hand_of I lease (Some (thought_of last.now)) (Considered old) tally) (found (Stored id)) txn result.told
-        (hand_of I lease (Some (thought_of last.now)) result.stage result.tally) }
+        FindsBest false I lease (thought_of last.now) old tally (found (Stored id)) txn result }
     ensures stage { (I : Problem) → IsLastThought I last.now → IsPrepared I (thought_of last.now) prepared.old →
         HasBestMark I false last.now.node id txn → IsStage I (Some (thought_of last.now)) result.stage }
     ensures accepted { result.tally.accepted ≡ tally.accepted }
@@ -181,8 +176,7 @@ fn told_entry(
 ) -> Outcome
     requires { IsOn last.now.node last.now.thought }
     ensures turn { (I : Problem) (lease : ℕ) (old : TxnValue) → IsLastThought I last.now → HasBestMark I taking last.now.node id txn →
-        AfterBest taking (hand_of I lease (Some (thought_of last.now)) (Considered old) tally) (found (Stored id)) txn result.told
-        (hand_of I lease (Some (thought_of last.now)) result.stage result.tally) }
+        FindsBest taking I lease (thought_of last.now) old tally (found (Stored id)) txn result }
     ensures stage { (I : Problem) → IsLastThought I last.now → HasBestMark I taking last.now.node id txn →
         IsStage I (Some (thought_of last.now)) result.stage }
     ensures accepted { result.tally.accepted ≡ tally.accepted }

@@ -8,12 +8,11 @@ ghost use Rattle.space_txn.specs.Machine.{end_answer, find_answer, found, refuse
 ghost use Rattle.space_txn.specs.Txn.{TxnValue};
 ghost use Rattle.qap_search.specs.Worker.Hand.{hand_of, is_due, is_hopeful, last_of};
 ghost use Rattle.qap_search.specs.Tuples.Piece.{node_template};
-ghost use Rattle.qap_search.specs.Worker.Prepared.{HasPrepared};
 ghost use Rattle.qap_search.specs.Law.Replacement.{MayReplace};
 ghost use Rattle.qap_search.specs.Law.SearchLaw.{IsSearchLaw};
-ghost use Rattle.qap_search.specs.Worker.Standing.{IsFoundNode, IsHand, IsSearchHand, IsStage};
+ghost use Rattle.qap_search.specs.Worker.Standing.{IsAtWork, IsFoundNode, IsSearchHand, IsStage};
 ghost use Rattle.qap_search.specs.Node.Thought.{ThoughtValue};
-ghost use Rattle.qap_search.specs.Worker.Turn.{AfterAbort, AfterBegin, AfterCommit, AfterNoCommit, AfterNode, AfterRefusal, Turn};
+ghost use Rattle.qap_search.specs.Worker.Turn.{AfterAbort, AfterBegin, AfterCommit, AfterNoCommit, AfterNode, AfterRefusal, TurnsInto};
 ghost use Rattle.qap_search.specs.declared.worker.stage.Stage.{Stage};
 ghost use Rattle.qap_search.specs.declared.worker.stage.Stage.TheVariants.{Begun, Considered, GivingUp, Idle, Ready};
 
@@ -38,10 +37,9 @@ pub(crate) fn turn<L: Law, M: Room<L>>(
     requires hand { IsSearchHand L.lawful L.allowed tools.now last.now standing.stage }
     requires not_due { is_due standing.stage ≡ false }
     requires counted { standing.tally.accepted ≤ share.old }
-    ensures turn { (I : Problem) → IsHand I tools.now last.now standing.stage → HasPrepared I last.now prepared.old → IsSearchLaw I L.lawful L.allowed →
-        Turn M.did (hand_of I tools.now.lease_ms (last_of last.now) standing.stage standing.tally) room.old result.told
-        (hand_of I tools.now.lease_ms (last_of last.now) result.stage result.tally) room.new }
-    ensures stage { (I : Problem) → IsHand I tools.now last.now standing.stage → HasPrepared I last.now prepared.old → IsSearchLaw I L.lawful L.allowed →
+    ensures turn { (I : Problem) → IsAtWork I L.lawful L.allowed tools.now last.now prepared.old standing.stage →
+        TurnsInto M.did I tools.now.lease_ms (last_of last.now) standing.stage standing.tally room.old result room.new }
+    ensures stage { (I : Problem) → IsAtWork I L.lawful L.allowed tools.now last.now prepared.old standing.stage →
         IsStage I (last_of last.now) result.stage }
     ensures counted { share.new + standing.tally.accepted ≡ share.old + result.tally.accepted }
 {
@@ -66,10 +64,9 @@ fn find_best<L: Law, M: Room<L>>(
     tally: Tally,
 ) -> Outcome
     requires hand { IsSearchHand L.lawful L.allowed tools.now last.now (Considered txn) }
-    ensures turn { (I : Problem) → IsHand I tools.now last.now (Considered txn) → HasPrepared I last.now prepared.old → IsSearchLaw I L.lawful L.allowed →
-        Turn M.did (hand_of I tools.now.lease_ms (last_of last.now) (Considered txn) tally) room.old result.told
-        (hand_of I tools.now.lease_ms (last_of last.now) result.stage result.tally) room.new }
-    ensures stage { (I : Problem) → IsHand I tools.now last.now (Considered txn) → HasPrepared I last.now prepared.old → IsSearchLaw I L.lawful L.allowed →
+    ensures turn { (I : Problem) → IsAtWork I L.lawful L.allowed tools.now last.now prepared.old (Considered txn) →
+        TurnsInto M.did I tools.now.lease_ms (last_of last.now) (Considered txn) tally room.old result room.new }
+    ensures stage { (I : Problem) → IsAtWork I L.lawful L.allowed tools.now last.now prepared.old (Considered txn) →
         IsStage I (last_of last.now) result.stage }
     ensures accepted { result.tally.accepted ≡ tally.accepted }
 {
@@ -97,7 +94,7 @@ fn begin<L: Law, M: Room<L>>(
     tally: Tally,
 ) -> Outcome
     ensures turn { (I : Problem) (last : Option ThoughtValue) →
-        Turn M.did (hand_of I lease_ms last Idle tally) room.old result.told (hand_of I lease_ms last result.stage result.tally) room.new }
+        TurnsInto M.did I lease_ms last Idle tally room.old result room.new }
     ensures stage { (I : Problem) (last : Option ThoughtValue) → IsStage I last result.stage }
     ensures accepted { result.tally.accepted ≡ tally.accepted }
 {
@@ -129,7 +126,7 @@ fn take_node<L: Law, M: Room<L>>(
     requires marks { txn.marks ≡ [] }
     requires writes { txn.writes ≡ [] }
     ensures turn { (I : Problem) (lease : ℕ) (last : Option ThoughtValue) →
-        Turn M.did (hand_of I lease last (Begun txn) tally) room.old result.told (hand_of I lease last result.stage result.tally) room.new }
+        TurnsInto M.did I lease last (Begun txn) tally room.old result room.new }
     ensures stage { (I : Problem) (last : Option ThoughtValue) → IsInstance I → IsSearchLaw I L.lawful L.allowed →
         IsStage I last result.stage }
     ensures accepted { result.tally.accepted ≡ tally.accepted }
@@ -176,7 +173,7 @@ fn commit<L: Law, M: Room<L>>(
     requires allowed { MayCommit L.allowed txn }
     requires counted { tally.accepted ≤ share.old }
     ensures turn { (I : Problem) (lease : ℕ) (last : Option ThoughtValue) →
-        Turn M.did (hand_of I lease last (Ready txn cost) tally) room.old result.told (hand_of I lease last result.stage result.tally) room.new }
+        TurnsInto M.did I lease last (Ready txn cost) tally room.old result room.new }
     ensures stage { (I : Problem) (last : Option ThoughtValue) → MayCommit (MayReplace I) txn → IsStage I last result.stage }
     ensures counted { share.new + tally.accepted ≡ share.old + result.tally.accepted }
 {
@@ -233,7 +230,7 @@ fn not_committed(error: TxnError, stage: Stage, tally: Tally) -> Outcome
 /// Ends a transaction without a commit.
 fn abort<L: Law, M: Room<L>>(room: &mut M, txn: Txn, tally: Tally) -> Outcome
     ensures turn { (I : Problem) (lease : ℕ) (last : Option ThoughtValue) →
-        Turn M.did (hand_of I lease last (GivingUp txn) tally) room.old result.told (hand_of I lease last result.stage result.tally) room.new }
+        TurnsInto M.did I lease last (GivingUp txn) tally room.old result room.new }
     ensures stage { (I : Problem) (last : Option ThoughtValue) → IsStage I last result.stage }
     ensures accepted { result.tally.accepted ≡ tally.accepted }
 {

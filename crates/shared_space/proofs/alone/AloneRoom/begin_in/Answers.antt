@@ -1,0 +1,19 @@
+use Rattle.std.proofs.Common.{◌∙◌, refl, sym}
+use Rattle.shared_space.specs.Event.{begin, begun}
+use Rattle.shared_space.specs.Place.{place_of}
+use Rattle.shared_space.specs.Run.{asks}
+use Rattle.shared_space.proofs.UnderLaw.{under_kept}
+use Rattle.shared_space.proofs.alone.AloneRoom.begin_in.Goals as goal
+
+pub invariant_of-self : goal.invariant_of-self
+invariant_of-self g c =
+    let law = g.L.Law in
+    let a = c.self.inside in
+    let new = c.begin_in.new.self in
+    let keeps = c.content_law.ensures.begins a.space c.args.asked c.begin_in.result new c.begin_in.ensures in
+    let h = c.self.invariant in (
+      h.0,
+      h.1 ∙ sym keeps.counted,
+      under_kept law.lawful law.allowed law.limit law.reached law.goes_on law.unordered (place_of a.space a.shares a.left a.closed) (place_of new a.shares a.left a.closed)
+          (asks (begin c.args.asked) (begun c.begin_in.result)) tt (c.begin_in.ensures, refl) keeps (λ closed. closed) h.2,
+    )
