@@ -256,15 +256,15 @@ cost_in_parts I x p node done =
     ∙ ap₂ ◌+ℤ◌ fixed (sum_to-same (λ r. sum_to (λ t. f (d + r) t +ℤ f t (d + r)) d +ℤ sum_to (λ l. f (d + r) (d + l)) m) (part I x p) m row)
 
 -- where the free facilities stand, and that the node's cost and what the reduced matrix says there are no more than the cost
-pub record HasShare (I : Problem) (x : Placement) (M : Square) (p : List ℕ) : Type 0 where
+pub record IsSeated (I : Problem) (x : Placement) (M : Square) (p : List ℕ) : Type 0 where
   pub seat : List ℕ
   pub seating : IsSeating x p seat
   pub below : (fixed_cost_of I x +ℤ assignment_cost M seat) ≤ℤ cost_of I p
 
 -- a permutation that completes a node assigns the free facilities to the free locations, and costs no less than the
 -- node's fixed cost and that assignment of the reduced matrix
-pub HasShare-from_completes : (I : Problem) (x : Placement) (M : Square) (p : List ℕ) → IsPlacement x → I.size ≡ x.size → IsReduced I x M → Completes x p → HasShare I x M p
-HasShare-from_completes I x M p placement same reduced done =
+pub IsSeated-from_completes : (I : Problem) (x : Placement) (M : Square) (p : List ℕ) → IsPlacement x → I.size ≡ x.size → IsReduced I x M → Completes x p → IsSeated I x M p
+IsSeated-from_completes I x M p placement same reduced done =
     let node : Halves I.size x = Halves-from_placement I.size x placement same in
     let found = IsSeating-from_completes I.size x p node done in
     let seat = found.0 in
@@ -281,7 +281,7 @@ HasShare-from_completes I x M p placement same reduced done =
 -- where duals fit the reduced matrix, no permutation that completes the node costs less than fixed cost and duals
 pub fixed_and_duals-le : (I : Problem) (x : Placement) (M : Square) (u v : List ℤ) (p : List ℕ) → IsPlacement x → I.size ≡ x.size → IsReduced I x M → DualsFit M u v → Completes x p → (fixed_cost_of I x +ℤ dual_value u v) ≤ℤ cost_of I p
 fixed_and_duals-le I x M u v p placement same reduced fit done =
-    let seated = HasShare-from_completes I x M p placement same reduced done in
+    let seated = IsSeated-from_completes I x M p placement same reduced done in
     let s = seated.seating in
     let size : M.size ≡ length seated.seat = reduced.size ∙ sym s.rows in
     let dual = dual_value-le M u v seated.seat fit (record { bijection = s.bijection; same_size = sym size }) in

@@ -12,7 +12,7 @@ use Rattle.qap_cost.specs.Placement.{Placement, IsPlacement, Completes, ListsFre
 use Rattle.qap_cost.proofs.Bijections.{sum_to-in_order}
 use Rattle.qap_cost.proofs.Placements.{ListsFree-free_below}
 use Rattle.qap_cost.proofs.Sums.{sum_to-add, sum_to-monotone, only_at, sum_to-only_at}
-use Rattle.gilmore_lawler.proofs.Completions.{HasShare-from_completes}
+use Rattle.gilmore_lawler.proofs.Completions.{IsSeated-from_completes}
 use Rattle.qap_proof.specs.Tree.{Pair}
 use Rattle.qap_proof.specs.Valid.{Reaches}
 
@@ -59,7 +59,7 @@ free_place n xs free i j listed hi hj same =
 pub Reaches-le : (I : Problem) (x : Placement) (d : Pair) (i k : ℕ) (value : ℤ) (p : List ℕ) → IsPlacement x → I.size ≡ x.size → Reaches I x d i k value → Completes x p → get_or p i 0 ≡ k → value ≤ℤ cost_of I p
 Reaches-le I x d i k value p placement same h done stands =
     let M = h.fits.matrix in
-    let seated = HasShare-from_completes I x M p placement same h.fits.reduced done in
+    let seated = IsSeated-from_completes I x M p placement same h.fits.reduced done in
     let seat = seated.seat in
     let s = seated.seating in
     let row_in : h.row < length seat = omega (arith, h.row_within, s.rows) in
