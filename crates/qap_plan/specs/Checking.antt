@@ -14,7 +14,7 @@ pub record TellsProvedCost (I : Problem) (p : List ℕ) (proof line : List ℕ) 
   pub proved : IsProvedBound I (root_of I.size) (cost_of I p) proof bound
   pub told : line ≡ verdict_line (cost_of I p) bound
 
--- the text is an answer to a plan, and this is told of its permutation
+-- the text is an answer to a plan, and this is reported of its permutation
 pub record ConfirmsPlan (P : NamedProblem) (text : List ℕ) (Told : List ℕ → Type 0) : Type 0 where
   pub permutation : List ℕ
   pub cost : ℤ

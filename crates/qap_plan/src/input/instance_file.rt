@@ -39,11 +39,15 @@ pub fn loaded_plan(rt: &HostRuntime, file: &str) -> Result<Loaded, ExitCode>
 
 /// The files that a run on a plan reads.
 pub fn inputs_of(rt: &HostRuntime, file: &str, loaded: &Loaded) -> Inputs {
+    let costs = match &loaded.costs_file {
+        Some(name) => file_id(rt, name.as_str()),
+        None => None,
+    };
     [
         file_id(rt, file),
         file_id(rt, loaded.flows_file.as_str()),
         file_id(rt, loaded.distances_file.as_str()),
-        None,
+        costs,
     ]
 }
 
