@@ -1,4 +1,4 @@
-use Rattle.std.proofs.Common.{ℕ, Some, ◌≡◌, ◌∙◌, ap, arith, sym}
+use Rattle.std.proofs.Common.{ℕ, Some, ◌≡◌, ◌∙◌, ap, arith, rules, sym}
 use Rattle.std.proofs.lemmas.List.Elements.{All-pop}
 use Rattle.qap_search.specs.Worker.Hand.{HandValue}
 use Rattle.qap_search.proofs.RunLemmas.Fronts.{All-front}
@@ -11,7 +11,10 @@ loop-share-preserved g c = record {
   worker = omega (arith, c.in_ok-push.ensures.len, c.loop-share.invariant.worker);
 }
 
-pub new-requires-in-Some-clause-counted : goal.new-requires-in-Some-clause-counted
-new-requires-in-Some-clause-counted g c =
+pub new-requires-in-Some : goal.new-requires-in-Some
+new-requires-in-Some g c =
     let zero = (All-pop (λ (n : ℕ). n ≡ 0) c.loop-share.rest.items c.pop.new.self.items (Some c.in-Some.share) c.in-Some.ensures.items c.loop-share.invariant.fresh).1 in
-    ap (λ (h : HandValue). h.accepted) c.beside-hand.ensures ∙ (c.in_ok-new.ensures.accepted ∙ sym zero)
+    record {
+      law = search rules;
+      counted = ap (λ (h : HandValue). h.accepted) c.beside-hand.ensures ∙ (c.in_ok-new.ensures.accepted ∙ sym zero);
+    }
