@@ -1,6 +1,8 @@
 """Devices that pass a byte a call and fail: `qapcheck` and `qapsolve` are run once for each of their reads and writes,
 with that one failing (each_call.py). An input takes a read for each byte and one that finds its end; a text is written
-by a write for each byte. Lengths are counted here, and the answers are worked by hand."""
+by a write for each byte. Lengths are counted here, and the answers are worked by hand.
+
+And memory that is refused: `qapplan` is run once for each of its allocations, with that one refused (refuse_each.py)."""
 
 import shutil
 
@@ -92,6 +94,19 @@ def refusals():
             yield f"bytes input: {escaped(text)}"
 
 
+# The least of its 120 costs, by listing, is 13.
+FIVE = "5 0 0 0 2 0 2 0 0 0 2 2 1 0 2 0 0 1 0 0 1 0 0 1 2 0 0 3 0 1 0 1 0 3 3 1 1 3 0 0 3 3 0 3 0 1 1 1 1 1 0"
+
+
+def allocations():
+    """A worker that finds no memory gives its node up: else the others wait ten minutes for its lease."""
+    for workers in (1, 2, 8):
+        yield f"case: qapplan solve --workers {workers}: each allocation refused"
+        yield f"use: tests/refuse_each.py bin/refuse.c\nfile five.dat: {FIVE}"
+        yield f"run: python3 refuse_each.py qapplan solve five.dat --workers {workers} --improve 10"
+        yield "stdout: cost 13, optimal, proved; no run ended otherwise\nlimit: 300"
+
+
 def cases():
     if shutil.which("cc") is None:
         print("failing_calls: left out: there is no C compiler, cc")
@@ -100,3 +115,4 @@ def cases():
     yield from solves()
     yield from certificates()
     yield from refusals()
+    yield from allocations()

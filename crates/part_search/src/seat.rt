@@ -140,9 +140,12 @@ impl<L: Law> Seat<L> {
     pub(crate) fn work<R: Wait + time::Clock>(&mut self, place: &Workplace<'_, R, L>) {
         for _ in place.rt.forever() {
             if self.ended.is_some() {
-                return;
+                break;
             }
             self.go_on_at(place);
+        }
+        if !self.worker.is_idle() {
+            place.shared.together(place.rt, self);
         }
     }
 
