@@ -87,9 +87,10 @@ IsStage I c (Tried t) = HasTried I c t
 IsStage I c (Ready t) = MayCommit (MayReplace I) t
 IsStage I c (GivingUp t) = Unit {0}
 
--- the law of the space allows each commit that replaces an open node of the instance
-abbrev pub Allows : Problem → (Content → Content → Content → Type 0) → Type 0
-Allows I allowed = (gone kept added : Content) → MayReplace I gone kept added → allowed gone kept added
+-- the law of the space allows each commit that replaces an open node of the instance, and a transaction's beginning with any lease
+pub record Allows (I : Problem) (allowed : Content → Content → Content → Type 0) (begins : ℕ → Type 0) : Type 0 where
+  pub commits : (gone kept added : Content) → MayReplace I gone kept added → allowed gone kept added
+  pub leases : (lease : ℕ) → begins lease
 
 -- the beginning of a transaction, or a call on one
 abbrev pub IsCall : Event → Type 0
@@ -100,7 +101,7 @@ IsCall _ = ⊥
 -- one such call was made on the room; a commit is one that replaces an open node
 abbrev pub Made : {R : Type 0} → (R → Event → Reply → R → Type 0) → Problem → R → R → Type 0
 Made did I before after =
-    (event : Event) × (reply : Reply) × IsCall event × IsAllowedAct (MayReplace I) (asks event reply) × did before event reply after
+    (event : Event) × (reply : Reply) × IsCall event × IsAllowedAct (MayReplace I) (λ _. Unit {0}) (Unit {0}) (asks event reply) × did before event reply after
 
 -- what holds for every worker on the instance
 pub record IsWorker (I : Problem) (best : Best) (stage : Stage) : Type 0 where

@@ -85,6 +85,7 @@ fn follow<L: Law, S: Stop>(
     requires few { workers ≤ 64 }
     requires start { length task.now.start.now ≡ (arc_value task.now.ground.now).size }
     requires law { IsLawOf (part_from (arc_value task.now.ground.now) task.now.root.now task.now.start.now) L.lawful L.allowed }
+    requires leases { (lease : ℕ) → L.begins lease }
     requires limit { L.limit ≡ None }
     requires opening { IsOpening (part_from (arc_value task.now.ground.now) task.now.root.now task.now.start.now) space }
     requires reached { L.reached (opened space workers None) }
@@ -117,13 +118,13 @@ impl<L: Law> Model for Post<L> {
 
     ghost view = { λ p. p.worker };
 
-    ghost invariant = { λ p. Allows p.worker L.allowed × (L.limit ≡ None) };
+    ghost invariant = { λ p. Allows p.worker L.allowed L.begins × (L.limit ≡ None) };
 }
 
 impl<L: Law> Post<L> {
     /// The place of a worker with its share.
     fn new(worker: Worker, share: Share<L>) -> Post<L>
-        requires allows { Allows worker L.allowed }
+        requires allows { Allows worker L.allowed L.begins }
         requires limit { L.limit ≡ None }
         ensures { result ≡ worker }
     {
@@ -154,7 +155,7 @@ fn turn_of<L: Law, S: Stop>(
     room: &mut Alone<L>,
     stop: &S,
 ) -> Result<(), AllocError>
-    requires allows { Allows worker.old L.allowed }
+    requires allows { Allows worker.old L.allowed L.begins }
     requires limit { L.limit ≡ None }
     ensures made { Made Did worker.old room.old room.new }
     ensures instance { worker.new ≡ worker.old }
@@ -169,7 +170,7 @@ fn step_of<L: Law>(
     share: &mut Share<L>,
     room: &mut Alone<L>,
 ) -> Result<bool, AllocError>
-    requires allows { Allows worker.old L.allowed }
+    requires allows { Allows worker.old L.allowed L.begins }
     requires limit { L.limit ≡ None }
     ensures made { Made Did worker.old room.old room.new }
     ensures instance { worker.new ≡ worker.old }
@@ -193,7 +194,7 @@ fn posts_for<L: Law, S: Stop>(
     shares: Vec<Share<L>>,
 ) -> Result<Vec<Post<L>>, AllocError>
     requires start { length task.now.start.now ≡ (arc_value task.now.ground.now).size }
-    requires law { Allows (arc_value task.now.ground.now) L.allowed }
+    requires law { Allows (arc_value task.now.ground.now) L.allowed L.begins }
     requires limit { L.limit ≡ None }
     ensures count { IfOk result (λ posts. vec_len posts ≡ vec_len shares) }
     ensures instance { IfOk result (λ posts. All (λ (I : Problem). I ≡ arc_value task.now.ground.now) posts.items) }

@@ -112,13 +112,13 @@ impl<L: Law> Model for Seat<L> {
 
     ghost view = { λ s. s.share };
 
-    ghost invariant = { λ s. Allows s.worker L.allowed };
+    ghost invariant = { λ s. Allows s.worker L.allowed L.begins };
 }
 
 impl<L: Law> Seat<L> {
     /// A worker that hasn't begun, with its share.
     pub(crate) fn new(worker: Worker, share: Share<L>) -> Seat<L>
-        requires { Allows worker L.allowed }
+        requires { Allows worker L.allowed L.begins }
         ensures { result ≡ share }
     {
         Seat {
@@ -202,7 +202,7 @@ fn go_on<L: Law, M: Room<L>>(
     worker: &mut Worker,
     share: &mut Share<L>,
 ) -> Result<bool, Ended>
-    requires { Allows worker.old L.allowed }
+    requires { Allows worker.old L.allowed L.begins }
     ensures { worker.new ≡ worker.old }
 {
     finish(room, worker, share)?;
@@ -224,7 +224,7 @@ fn finish<L: Law, M: Room<L>>(
     worker: &mut Worker,
     share: &mut Share<L>,
 ) -> Result<(), Ended>
-    requires { Allows worker.old L.allowed }
+    requires { Allows worker.old L.allowed L.begins }
     ensures { worker.new ≡ worker.old }
 {
     for _ in 0..STEPS_TO_IDLE {
@@ -241,7 +241,7 @@ fn step<L: Law, M: Room<L>>(
     worker: &mut Worker,
     share: &mut Share<L>,
 ) -> Result<(), Ended>
-    requires { Allows worker.old L.allowed }
+    requires { Allows worker.old L.allowed L.begins }
     ensures { worker.new ≡ worker.old }
 {
     match worker.step(room, share) {

@@ -24,6 +24,7 @@ use tuple_space::EntryId;
 
 /// Begins a transaction with a lease of this many milliseconds.
 pub(crate) fn begin<L: Law, M: Room<L>>(room: &mut M, lease_ms: u64) -> Outcome
+    requires { L.begins lease_ms }
     ensures made { (I : Problem) → Made M.did I room.old room.new }
     ensures stage { (I : Problem) (c : ℤ) → IsStage I c result.stage }
 {
@@ -203,7 +204,7 @@ pub(crate) fn commit<L: Law, M: Room<L>>(
     instance: &Instance,
     txn: Txn,
 ) -> Outcome
-    requires law { Allows instance.now L.allowed }
+    requires law { Allows instance.now L.allowed L.begins }
     requires may { MayCommit (MayReplace instance.now) txn }
     ensures made { Made M.did instance.now room.old room.new }
     ensures stage { (c : ℤ) → IsStage instance.now c result.stage }

@@ -1,6 +1,6 @@
 //! A search by several workers, each in its own thread.
 
-ghost use Rattle.std.specs.Prelude.{◌≡◌, ◌<◌, ◌≤◌, [], IfOk, length, vec_capacity, vec_len};
+ghost use Rattle.std.specs.Prelude.{ℕ, ◌≡◌, ◌<◌, ◌≤◌, [], IfOk, length, vec_capacity, vec_len};
 ghost use Rattle.std.specs.Arc.{arc_value};
 ghost use Rattle.shared_space.specs.Limit.{IsWithin};
 ghost use Rattle.shared_space.specs.Opening.{IsBlankFor, opened};
@@ -124,6 +124,7 @@ where
     requires blank { IsBlankFor L.name L.parts blank crew.workers }
     requires start { length task.now.start.now ≡ (arc_value task.now.ground.now).size }
     requires law { IsLawOf (part_from (arc_value task.now.ground.now) task.now.root.now task.now.start.now) L.lawful L.allowed }
+    requires leases { (lease : ℕ) → L.begins lease }
     requires limit { L.limit ≡ crew.limit }
     requires opening { IsOpening (part_from (arc_value task.now.ground.now) task.now.root.now task.now.start.now) space }
     requires reached { L.reached (opened space crew.workers crew.limit) }
@@ -165,7 +166,7 @@ fn seats_for<L: Law, S>(
     shares: Vec<Share<L>>,
 ) -> Result<Vec<Mutex<Seat<L>>>, AllocError>
     requires start { length task.now.start.now ≡ (arc_value task.now.ground.now).size }
-    requires law { Allows (arc_value task.now.ground.now) L.allowed }
+    requires law { Allows (arc_value task.now.ground.now) L.allowed L.begins }
     ensures { IfOk result (λ seats. vec_len seats ≡ vec_len shares) }
 {
     let mut seats = Vec::with_capacity(alloc, shares.len())?;

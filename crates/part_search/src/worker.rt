@@ -128,7 +128,7 @@ impl Worker {
         room: &mut M,
         share: &mut Share<L>,
     ) -> Result<bool, AllocError>
-        requires { Allows self.old L.allowed }
+        requires { Allows self.old L.allowed L.begins }
         ensures made { Made M.did self.old room.old room.new }
         ensures instance { self.new ≡ self.old }
     {
@@ -220,7 +220,7 @@ fn turn<L: Law, M: Room<L>>(
     stage: Stage,
     incumbent: &mut Incumbent,
 ) -> Outcome
-    requires law { Allows ground.now L.allowed }
+    requires law { Allows ground.now L.allowed L.begins }
     requires worker { IsWorker ground.now incumbent.old stage }
     ensures made { Made M.did ground.now room.old room.new }
     ensures worker { IsWorker ground.now incumbent.new result.stage }

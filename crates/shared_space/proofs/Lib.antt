@@ -1,3 +1,4 @@
+pub mod ContentRuns
 pub mod LawLemmas
 pub mod MarkLemmas
 pub mod RunLemmas

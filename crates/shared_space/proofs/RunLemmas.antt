@@ -1,5 +1,5 @@
 -- Runs, one act more at their end, and the commits that they count.
-use Rattle.std.proofs.Common.{◌≡◌, ℕ, ◌+◌, ◌++◌, Option, List, [], ◌∷◌, Ok, Err, cond, count_by, arith, ap, ltb, refl, subst, ◌∙◌}
+use Rattle.std.proofs.Common.{◌≡◌, ℕ, ◌+◌, ◌++◌, Option, List, [], ◌∷◌, Ok, Err, cond, count_by, arith, ap, ltb, refl, subst, sym, ◌∙◌}
 use Rattle.std.proofs.lemmas.Bool.{cond_both}
 use Rattle.std.proofs.lemmas.List.Elements.{All-append, All-cons, All-nil}
 use Rattle.std.proofs.lemmas.List.Sums.{sum_by-cons}
@@ -11,25 +11,28 @@ use Rattle.shared_space.specs.Event.{Event, Reply, advance, answered, ask, begin
 use Rattle.shared_space.specs.Law.{Content}
 use Rattle.shared_space.specs.Limit.{DidWithin}
 use Rattle.shared_space.specs.Place.{Place, one_left}
-use Rattle.shared_space.specs.Run.{Act, Acts, GoesOn, IsAllowedAct, LeadTo, Run, asks, is_accepted, leaves, outside, shuts}
+use Rattle.shared_space.specs.Run.{Act, Acts, ActsOnContent, GoesOn, IsAllowedAct, LeadTo, Run, asks, is_accepted, leaves, outside, shuts}
 
-lead_more : (limit : Option ℕ) (old mid new : Place) (acts : List Act) (act : Act) → LeadTo limit old acts mid → Acts limit mid act new → LeadTo limit old (acts ++ act ∷ []) new
-lead_more limit old mid new [] act is h = (new, subst (λ (p : Place). Acts limit p act new) is h, refl)
-lead_more limit old mid new (a ∷ acts) act lead h = (lead.0, lead.1, lead_more limit lead.0 mid new acts act lead.2 h)
+lead_more : (limit : Option ℕ) (old mid new : Place) (acts : List Act) (act : Act) → LeadTo limit old acts mid → Acts limit mid act new → ActsOnContent mid.world act new.world
+    → LeadTo limit old (acts ++ act ∷ []) new
+lead_more limit old mid new [] act is h on =
+    (new, subst (λ (p : Place). Acts limit p act new) is h, refl, subst (λ (p : Place). ActsOnContent p.world act new.world) is on)
+lead_more limit old mid new (a ∷ acts) act lead h on = (lead.0, lead.1, lead_more limit lead.0 mid new acts act lead.2 h on, lead.3)
 
--- a run goes on by each act that is allowed
-pub runs_go_on : (allowed : Content → Content → Content → Type 0) (limit : Option ℕ) (opening : Place) → GoesOn allowed limit (Run allowed limit opening)
-runs_go_on allowed limit opening old new act ok acts run =
-    let P = IsAllowedAct allowed in
-    record {
-      acts = run.acts ++ act ∷ [];
-      allowed_each = All-append P run.acts (act ∷ []) run.allowed_each (All-cons P act [] ok (All-nil P));
-      lead = lead_more limit opening old new run.acts act run.lead acts;
-    }
+module _ (allowed : Content → Content → Content → Type 0) (begins : ℕ → Type 0) (changes : Type 0) (limit : Option ℕ) (opening : Place) where
+  -- a run goes on by each act that is allowed
+  pub runs_go_on : GoesOn allowed begins changes limit (Run allowed begins changes limit opening)
+  runs_go_on old new act ok acts on run =
+      let P = IsAllowedAct allowed begins changes in
+      record {
+        acts = run.acts ++ act ∷ [];
+        allowed_each = All-append P run.acts (act ∷ []) run.allowed_each (All-cons P act [] ok (All-nil P));
+        lead = lead_more limit opening old new run.acts act run.lead acts on;
+      }
 
--- no acts are a run from a place to itself
-pub no_acts_yet : (allowed : Content → Content → Content → Type 0) (limit : Option ℕ) (opening : Place) → Run allowed limit opening opening
-no_acts_yet allowed limit opening = record { acts = []; allowed_each = All-nil (IsAllowedAct allowed); lead = refl }
+  -- no acts are a run from a place to itself
+  pub no_acts_yet : Run allowed begins changes limit opening opening
+  no_acts_yet = record { acts = []; allowed_each = All-nil (IsAllowedAct allowed begins changes); lead = refl }
 
 -- how many commits a place counts more than one before, after an act
 abbrev Counts : Place → Act → Place → Type 0

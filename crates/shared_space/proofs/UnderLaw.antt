@@ -20,7 +20,7 @@ use Rattle.shared_space.specs.Event.{Did, Event, Reply, advance, answered, ask, 
 use Rattle.shared_space.specs.Law.{Content, IsFree, IsKept, IsUnordered, MayCommit}
 use Rattle.shared_space.specs.Limit.{DidWithin, IsUnderLaw, IsWithin, is_reached}
 use Rattle.shared_space.specs.Place.{Place}
-use Rattle.shared_space.specs.Run.{Act, Acts, GoesOn, IsAllowedAct, asks}
+use Rattle.shared_space.specs.Run.{Act, Acts, ActsOnContent, GoesOn, IsAllowedAct, asks}
 use Rattle.shared_space.proofs.LawLemmas.{commit_lawful, stays_lawful}
 
 abbrev tuples : List Entry → List (List FieldValue)
@@ -41,18 +41,18 @@ same_content lawful old new same counted law =
     subst (lawful (content_of new)) (sym counted) (subst (λ (xs : Content). lawful xs old.commits) (sym same) law)
 
 -- a write outside all transactions leaves the content, unless it is permanent and the law always holds
-pub out_lawful : (lawful : Content → ℕ → Type 0) (allowed : Content → Content → Content → Type 0) (old new : World) (tuple : List FieldValue) (lease : Lease) (reply : space.Reply)
-    → (lease ≡ Forever → IsFree lawful allowed) → space.Step old.space (space.out tuple lease) reply new.space → new.commits ≡ old.commits
+pub out_lawful : (lawful : Content → ℕ → Type 0) (allowed : Content → Content → Content → Type 0) (begins : ℕ → Type 0) (changes : Type 0) (old new : World) (tuple : List FieldValue) (lease : Lease) (reply : space.Reply)
+    → (lease ≡ Forever → IsFree lawful allowed begins changes) → space.Step old.space (space.out tuple lease) reply new.space → new.commits ≡ old.commits
     → lawful (content_of old) old.commits → lawful (content_of new) new.commits
-out_lawful lawful allowed old new tuple Forever reply may step same law = (may refl).holds (content_of new) new.commits
-out_lawful lawful allowed old new tuple (Ms asked) (space.given number) may step same law =
+out_lawful lawful allowed begins changes old new tuple Forever reply may step same law = (may refl).holds (content_of new) new.commits
+out_lawful lawful allowed begins changes old new tuple (Ms asked) (space.given number) may step same law =
     let written : Entry = record { number = old.space.last + 1; tuple = tuple; end = granted old.space.moment (Ms asked); holds = [] } in
     same_content lawful old new (ap (λ (s : SpaceValue). permanent_tuples s.entries) step.2 ∙ not_permanent old.space.entries written refl) same law
-out_lawful lawful allowed old new tuple (Ms asked) (space.refused Exhausted) may step same law =
+out_lawful lawful allowed begins changes old new tuple (Ms asked) (space.refused Exhausted) may step same law =
     same_content lawful old new (ap (λ (s : SpaceValue). permanent_tuples s.entries) step.1) same law
-out_lawful lawful allowed old new tuple (Ms asked) (space.refused OutOfMemory) may step same law =
+out_lawful lawful allowed begins changes old new tuple (Ms asked) (space.refused OutOfMemory) may step same law =
     same_content lawful old new (ap (λ (s : SpaceValue). permanent_tuples s.entries) step.1) same law
-out_lawful lawful allowed old new tuple (Ms asked) _ may step same law = absurd step
+out_lawful lawful allowed begins changes old new tuple (Ms asked) _ may step same law = absurd step
 
 -- one commit more, where the limit isn't reached
 within-more : (limit : Option ℕ) (commits : ℕ) → is_reached limit commits ≡ false → IsWithin limit commits → IsWithin limit (commits + 1)
@@ -65,24 +65,24 @@ within-more (Some limit) commits below within =
 abbrev StaysClosed : Place → Place → Type 0
 StaysClosed old new = old.closed ≡ true → new.closed ≡ true
 
-module _ (lawful : Content → ℕ → Type 0) (allowed : Content → Content → Content → Type 0) (limit : Option ℕ) (reached : Place → Type 0) (goes_on : GoesOn allowed limit reached) where
+module _ (lawful : Content → ℕ → Type 0) (allowed : Content → Content → Content → Type 0) (begins : ℕ → Type 0) (changes : Type 0) (limit : Option ℕ) (reached : Place → Type 0) (goes_on : GoesOn allowed begins changes limit reached) where
   -- an act that leaves the number of commits, and leads to lawful content
-  pub under_uncounted : (old new : Place) (act : Act) → IsAllowedAct allowed act → Acts limit old act new → lawful (content_of new.world) new.world.commits
-      → new.world.commits ≡ old.world.commits → StaysClosed old new → IsUnderLaw lawful limit reached old → IsUnderLaw lawful limit reached new
-  under_uncounted old new act may acts law same closed h = record {
+  pub under_uncounted : (old new : Place) (act : Act) → IsAllowedAct allowed begins changes act → Acts limit old act new → ActsOnContent old.world act new.world
+      → lawful (content_of new.world) new.world.commits → new.world.commits ≡ old.world.commits → StaysClosed old new → IsUnderLaw lawful limit reached old → IsUnderLaw lawful limit reached new
+  under_uncounted old new act may acts on law same closed h = record {
     content = law;
     limited = record {
       within = subst (IsWithin limit) (sym same) h.limited.within;
       closed = λ at. closed (h.limited.closed (subst (λ (n : ℕ). is_reached limit n ≡ true) same at));
     };
-    place = goes_on old new act may acts h.place;
+    place = goes_on old new act may acts on h.place;
   }
 
   -- an act that leaves the content
-  pub under_kept : IsUnordered lawful → (old new : Place) (act : Act) → IsAllowedAct allowed act → Acts limit old act new → KeepsContent old.world new.world
-      → StaysClosed old new → IsUnderLaw lawful limit reached old → IsUnderLaw lawful limit reached new
-  under_kept unordered old new act may acts keeps closed h =
-      under_uncounted old new act may acts (stays_lawful lawful unordered old.world new.world keeps h.content) keeps.counted closed h
+  pub under_kept : IsUnordered lawful → (old new : Place) (act : Act) → IsAllowedAct allowed begins changes act → Acts limit old act new → KeepsContent old.world new.world
+      → ActsOnContent old.world act new.world → StaysClosed old new → IsUnderLaw lawful limit reached old → IsUnderLaw lawful limit reached new
+  under_kept unordered old new act may acts keeps on closed h =
+      under_uncounted old new act may acts on (stays_lawful lawful unordered old.world new.world keeps h.content) keeps.counted closed h
 
   -- an accepted commit that is allowed
   pub under_committed : IsUnordered lawful → IsKept lawful allowed → (old new : Place) (t : TxnValue) → MayCommit allowed t → Acts limit old (asks (call t commit) (answered done t)) new
@@ -93,7 +93,7 @@ module _ (lawful : Content → ℕ → Type 0) (allowed : Content → Content �
       within = subst (IsWithin limit) (sym change.counted) (within-more limit old.world.commits acts.0 h.limited.within);
       closed = λ at. ap (λ (p : Place). p.closed) acts.2 ∙ or_right old.closed (is_reached limit new.world.commits) at;
     };
-    place = goes_on old new (asks (call t commit) (answered done t)) may acts h.place;
+    place = goes_on old new (asks (call t commit) (answered done t)) may acts change h.place;
   }
 
 -- without a limit, a step within it is one of the machine

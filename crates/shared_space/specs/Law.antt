@@ -19,10 +19,12 @@ abbrev pub IsKept : (Content → ℕ → Type 0) → (Content → Content → Co
 IsKept lawful allowed =
     (gone kept added rest : Content) (commits : ℕ) → allowed gone kept added → lawful (gone ++ (kept ++ rest)) commits → lawful (added ++ (kept ++ rest)) (commits + 1)
 
--- a law that always holds and allows every commit
-pub record IsFree (lawful : Content → ℕ → Type 0) (allowed : Content → Content → Content → Type 0) : Type 0 where
+-- a law that always holds and allows everything: every commit, every lease, and calls outside all transactions that change the space
+pub record IsFree (lawful : Content → ℕ → Type 0) (allowed : Content → Content → Content → Type 0) (begins : ℕ → Type 0) (changes : Type 0) : Type 0 where
   pub holds : (xs : Content) (commits : ℕ) → lawful xs commits
   pub allows : (gone kept added : Content) → allowed gone kept added
+  pub leases : (lease : ℕ) → begins lease
+  pub may_change : changes
 
 -- a lawful content holds the tuple
 abbrev pub InLawful : (Content → ℕ → Type 0) → List FieldValue → Type 0

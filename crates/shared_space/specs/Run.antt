@@ -1,9 +1,10 @@
 -- Acts on a space behind its lock, and runs of it: one act after another, each a step of the machine.
-use Rattle.std.specs.Prelude.{◌≡◌, ℕ, Bool, true, false, List, [], ◌∷◌, All, Option}
+use Rattle.std.specs.Prelude.{◌≡◌, ℕ, zero, suc, ◌++◌, Bool, true, false, List, [], ◌∷◌, All, Option}
 use Rattle.tuple_space.specs.Step as space
+use Rattle.space_txn.specs.Content.{ChangesContent, KeepsContent, SameItems}
 use Rattle.space_txn.specs.Machine.{commit, done}
 use Rattle.space_txn.specs.World.{World}
-use Rattle.shared_space.specs.Event.{Event, Reply, answered, call}
+use Rattle.shared_space.specs.Event.{Event, Reply, answered, begin, call}
 use Rattle.shared_space.specs.Law.{Content, MayCommit}
 use Rattle.shared_space.specs.Limit.{DidWithin}
 use Rattle.shared_space.specs.Place.{Place, one_left, with_place_space}
@@ -24,10 +25,26 @@ Acts limit old (outside event reply) new =
 Acts limit old leaves new = new ≡ one_left old
 Acts limit old shuts new = new ≡ record old { closed = true }
 
--- if the act is a commit, it is an allowed one
-abbrev pub IsAllowedAct : (Content → Content → Content → Type 0) → Act → Type 0
-IsAllowedAct allowed (asks (call t commit) reply) = MayCommit allowed t
-IsAllowedAct allowed _ = Unit {0}
+-- a call outside all transactions that only looks at the space; any other only where such calls may change it
+abbrev pub IsAllowedOutside : Type 0 → space.Event → Type 0
+IsAllowedOutside changes (space.rdp template) = Unit {0}
+IsAllowedOutside changes (space.count template) = Unit {0}
+IsAllowedOutside changes space.now = Unit {0}
+IsAllowedOutside changes _ = changes
+
+-- a commit is an allowed one, a transaction begins with an allowed lease, and a call outside all transactions is allowed
+abbrev pub IsAllowedAct : (Content → Content → Content → Type 0) → (ℕ → Type 0) → Type 0 → Act → Type 0
+IsAllowedAct allowed begins changes (asks (call t commit) reply) = MayCommit allowed t
+IsAllowedAct allowed begins changes (asks (begin lease) reply) = begins lease
+IsAllowedAct allowed begins changes (outside event reply) = IsAllowedOutside changes event
+IsAllowedAct allowed begins changes _ = Unit {0}
+
+-- what an act does to the content: an accepted commit changes it by what its transaction took, read and wrote, and no other act of
+-- a worker changes it; what a call outside all transactions does to it, the machine says
+abbrev pub ActsOnContent : World → Act → World → Type 0
+ActsOnContent old (asks (call t commit) (answered done t')) new = ChangesContent old new t
+ActsOnContent old (outside event reply) new = Unit {0}
+ActsOnContent old _ new = KeepsContent old new
 
 -- the act is a commit that was accepted
 abbrev pub is_accepted : Act → Bool
@@ -37,18 +54,35 @@ is_accepted _ = false
 -- from old, the acts lead to new, in sequence
 abbrev pub LeadTo : Option ℕ → Place → List Act → Place → Type 0
 LeadTo limit old [] new = new ≡ old
-LeadTo limit old (act ∷ acts) new = (next : Place) × Acts limit old act next × LeadTo limit next acts new
+LeadTo limit old (act ∷ acts) new =
+    (next : Place) × Acts limit old act next × LeadTo limit next acts new × ActsOnContent old.world act next.world
 
--- a run from one place to another: acts that lead there, of which each commit is allowed
-pub record Run (allowed : Content → Content → Content → Type 0) (limit : Option ℕ) (old new : Place) : Type 0 where
+-- a run from one place to another: acts that lead there, each of them allowed
+pub record Run (allowed : Content → Content → Content → Type 0) (begins : ℕ → Type 0) (changes : Type 0) (limit : Option ℕ) (old new : Place) : Type 0 where
   pub acts : List Act
-  pub allowed_each : All (IsAllowedAct allowed) acts
+  pub allowed_each : All (IsAllowedAct allowed begins changes) acts
   pub lead : LeadTo limit old acts new
 
 -- reachability is preserved: each allowed act leads from a reachable place to a reachable one
-abbrev pub GoesOn : (Content → Content → Content → Type 0) → Option ℕ → (Place → Type 0) → Type 0
-GoesOn allowed limit reached =
-    (old new : Place) (act : Act) → IsAllowedAct allowed act → Acts limit old act new → reached old → reached new
+abbrev pub GoesOn : (Content → Content → Content → Type 0) → (ℕ → Type 0) → Type 0 → Option ℕ → (Place → Type 0) → Type 0
+GoesOn allowed begins changes limit reached =
+    (old new : Place) (act : Act) → IsAllowedAct allowed begins changes act → Acts limit old act new → ActsOnContent old.world act new.world
+    → reached old → reached new
+
+-- a content becomes another one by one allowed commit: what goes is removed, and what is added put in; what is read stays, as does the rest
+pub record Replaces (allowed : Content → Content → Content → Type 0) (old new : Content) : Type 0 where
+  pub gone : Content
+  pub kept : Content
+  pub added : Content
+  pub rest : Content
+  pub may : allowed gone kept added
+  pub before : SameItems old (gone ++ (kept ++ rest))
+  pub after : SameItems new (added ++ (kept ++ rest))
+
+-- by this many allowed commits, one after the other, and by nothing else
+abbrev pub ChangesBy : (Content → Content → Content → Type 0) → ℕ → Content → Content → Type 0
+ChangesBy allowed zero old new = SameItems new old
+ChangesBy allowed (suc n) old new = (next : Content) × Replaces allowed old next × ChangesBy allowed n next new
 
 -- one of the reachable places has this world
 pub record IsReached (reached : Place → Type 0) (w : World) : Type 0 where

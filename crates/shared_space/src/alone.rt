@@ -125,7 +125,8 @@ impl<L: Law> Alone<L> {
 
     /// Writes a tuple, outside all transactions.
     pub fn out(&mut self, tuple: Tuple, lease: Lease) -> Result<EntryId, (SpaceError, Tuple)>
-        requires { lease ≡ Lease.Forever → IsFree L.lawful L.allowed }
+        requires free { lease ≡ Lease.Forever → IsFree L.lawful L.allowed L.begins L.changes }
+        requires changes { L.changes }
         ensures acts { Acts L.limit self.old (outside (out tuple lease) (out_reply result)) self.new }
         ensures handed_back { IfErr result (λ back. back.1 ≡ tuple) }
         ensures kind { IfErr result (λ back. IsOutError back.0) }
@@ -135,7 +136,7 @@ impl<L: Law> Alone<L> {
 
     /// Takes a tuple, outside all transactions, or returns `None` if none is available now.
     pub fn inp(&mut self, template: &Template) -> Option<(EntryId, Tuple)>
-        requires { IsFree L.lawful L.allowed }
+        requires { IsFree L.lawful L.allowed L.begins L.changes }
         ensures acts { Acts L.limit self.old (outside (inp template.now) (inp_reply result)) self.new }
         ensures matches { IfSome result (λ found. Matches template.now found.1) }
     {

@@ -19,6 +19,12 @@ pub trait Law: Ledger {
     /// Which commits are allowed: of what goes, of what is read and stays, and of what is added.
     ghost allowed: { Content → Content → Content → Type 0 };
 
+    /// With which leases, in milliseconds, transactions may begin.
+    ghost begins: { ℕ → Type 0 };
+
+    /// Whether calls outside all transactions may change the space, and not only look at it.
+    ghost changes: { Type 0 };
+
     /// How many commits are allowed in all, if there is a limit.
     ghost limit: { Option ℕ };
 
@@ -32,13 +38,17 @@ pub trait Law: Ledger {
     ghost keeps: { IsKept lawful allowed };
 
     /// From a place that is reached, each act leads to another one that is.
-    ghost goes_on: { GoesOn allowed limit reached };
+    ghost goes_on: { GoesOn allowed begins changes limit reached };
 }
 
 impl Law for Brand {
     ghost lawful = { λ _ _. Unit {0} };
 
     ghost allowed = { λ _ _ _. Unit {0} };
+
+    ghost begins = { λ _. Unit {0} };
+
+    ghost changes = { Unit {0} };
 
     ghost limit = { None };
 
@@ -48,5 +58,5 @@ impl Law for Brand {
 
     ghost keeps = { λ _ _ _ _ _ _ _. tt };
 
-    ghost goes_on = { λ _ _ _ _ _ _. tt };
+    ghost goes_on = { λ _ _ _ _ _ _ _. tt };
 }

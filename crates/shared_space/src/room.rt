@@ -21,12 +21,14 @@ pub trait Room<L: Law> {
 
     /// Begins a transaction with a lease of this many milliseconds, and a day at most. Refusals: 33, 50.
     fn begin(&mut self, asked: u64) -> Result<Txn, TxnError>
+        requires { L.begins asked }
         ensures did { did self.old (begin asked) (begun result) self.new }
         ensures empty { IfOk result (λ txn. (txn.marks ≡ []) × (txn.writes ≡ [])) };
 
     /// Likewise in spare memory, if there is some, so that none is allocated for what the transaction will hold. If
     /// refused, that memory is unchanged.
     fn begin_in(&mut self, asked: u64, spare: &mut Option<Spare>) -> Result<Txn, TxnError>
+        requires { L.begins asked }
         ensures did { did self.old (begin asked) (begun result) self.new }
         ensures empty { IfOk result (λ txn. (txn.marks ≡ []) × (txn.writes ≡ [])) };
 

@@ -16,7 +16,6 @@ use crate::alone::Alone;
 use crate::error::{CommitError, SharedError};
 use crate::law::Law;
 use crate::locking::locked;
-use crate::look::Look;
 use crate::room::Room;
 use crate::share::Share;
 use crate::steps::Steps;
@@ -128,7 +127,8 @@ impl<L: Law> Shared<L> {
         tuple: Tuple,
         lease: Lease,
     ) -> Result<EntryId, (SpaceError, Tuple)>
-        requires { lease ≡ Lease.Forever → IsFree L.lawful L.allowed }
+        requires free { lease ≡ Lease.Forever → IsFree L.lawful L.allowed L.begins L.changes }
+        requires changes { L.changes }
         ensures handed_back { IfErr result (λ back. back.1 ≡ tuple) }
         ensures kind { IfErr result (λ back. IsOutError back.0) }
     {
@@ -139,7 +139,7 @@ impl<L: Law> Shared<L> {
 
     /// Takes a tuple, outside all transactions, or returns `None` if none is available now. Allocates nothing.
     pub fn inp<R: Wait>(&self, rt: &R, template: &Template) -> Option<(EntryId, Tuple)>
-        requires { IsFree L.lawful L.allowed }
+        requires { IsFree L.lawful L.allowed L.begins L.changes }
         ensures { IfSome result (λ found. Matches template.now found.1) }
     {
         locked(rt, &self.alone).inp(template)
@@ -160,7 +160,7 @@ impl<L: Law> Shared<L> {
     /// Waits until a matching tuple is available, and takes it, outside all transactions. Refusal: 34 if the space is
     /// closed and none is available. Allocates nothing.
     pub fn in_<R: Wait>(&self, rt: &R, template: &Template) -> Result<(EntryId, Tuple), SharedError>
-        requires { IsFree L.lawful L.allowed }
+        requires { IsFree L.lawful L.allowed L.begins L.changes }
         ensures matches { IfOk result (λ found. Matches template.now found.1) }
         ensures kind { IfErr result (λ error. error ≡ SharedError.Closed) }
     {
@@ -197,6 +197,7 @@ impl<L: Law> Shared<L> {
 
     /// Begins a transaction with a lease of this many milliseconds, and a day at most. Refusals: 33, 50.
     pub fn begin<R: Wait>(&self, rt: &R, asked: u64) -> Result<Txn, TxnError>
+        requires { L.begins asked }
         ensures empty { IfOk result (λ txn. (txn.marks ≡ []) × (txn.writes ≡ [])) }
         ensures kind { IfErr result IsBeginError }
     {
@@ -211,6 +212,7 @@ impl<L: Law> Shared<L> {
         asked: u64,
         spare: &mut Option<Spare>,
     ) -> Result<Txn, TxnError>
+        requires { L.begins asked }
         ensures empty { IfOk result (λ txn. (txn.marks ≡ []) × (txn.writes ≡ [])) }
         ensures kind { IfErr result IsBeginError }
     {
@@ -326,11 +328,6 @@ impl<L: Law> Shared<L> {
         drop(alone);
         self.changed.notify_all();
         drop(spent);
-    }
-
-    /// Lets the space be looked at under one taking of the lock.
-    pub fn look<R: Wait, W: Look<L>>(&self, rt: &R, looks: &mut W) {
-        looks.look(&***locked(rt, &self.alone));
     }
 
     /// One more worker has left. Allocates nothing.

@@ -41,7 +41,7 @@ fn new_limited<L: Law>(
 ) -> Result<(Shared<L>, Vec<Share<L>>), Fail>
     requires blank { IsBlankFor L.name L.parts blank shares }
     requires limit { L.limit ≡ Some limit }
-    requires free { IsFree L.lawful L.allowed }
+    requires free { IsFree L.lawful L.allowed L.begins L.changes }
     requires reached { (p : Place) → L.reached p }
     ensures { IfOk result (λ made. vec_len made.1 ≡ shares) }
 {
@@ -70,7 +70,7 @@ fn write_one<L: Law, R: Wait>(
     shared: &Shared<L>,
     share: &mut Share<L>,
 ) -> Result<bool, Fail>
-    requires { IsFree L.lawful L.allowed }
+    requires { IsFree L.lawful L.allowed L.begins L.changes }
 {
     let txn = begin_writing(rt, alloc, shared)?;
     match shared.commit(rt, share, txn) {
@@ -90,7 +90,7 @@ fn write_each<L: Law, R: Wait>(
     shared: &Shared<L>,
     share: &mut Share<L>,
 ) -> Result<([bool; 4], [bool; 3]), Fail>
-    requires { IsFree L.lawful L.allowed }
+    requires { IsFree L.lawful L.allowed L.begins L.changes }
 {
     let before = shared.closed(rt);
     let first = write_one(rt, alloc, shared, share)?;
@@ -113,7 +113,7 @@ fn write_three<L: Law, R: Wait>(
 ) -> Result<Met, Fail>
     requires blank { IsBlankFor L.name L.parts blank 1 }
     requires limit { L.limit ≡ Some limit }
-    requires free { IsFree L.lawful L.allowed }
+    requires free { IsFree L.lawful L.allowed L.begins L.changes }
     requires reached { (p : Place) → L.reached p }
 {
     let (shared, mut shares) = new_limited::<L>(alloc, blank, 1, limit)?;
@@ -137,7 +137,7 @@ fn race_in_four<L: Law + Send + Sync, R: Threads + Wait + Sync>(
 ) -> Result<[u64; 3], Fail>
     requires blank { IsBlankFor L.name L.parts blank 4 }
     requires limit { L.limit ≡ Some limit }
-    requires free { IsFree L.lawful L.allowed }
+    requires free { IsFree L.lawful L.allowed L.begins L.changes }
     requires reached { (p : Place) → L.reached p }
 {
     let (shared, shares) = new_limited::<L>(alloc, blank, 4, limit)?;

@@ -44,7 +44,7 @@ pub(crate) fn write<L: Law, M: Room<L>>(
     room: &mut M,
     share: &mut Share<L>,
 ) -> Option<()>
-    requires { IsFree L.lawful L.allowed }
+    requires { IsFree L.lawful L.allowed L.begins L.changes }
     ensures { MatchOption result (share.new ≡ share.old) (λ _. share.new ≡ share.old + 1) }
 {
     let mut spare = emptied(room.take_spent());

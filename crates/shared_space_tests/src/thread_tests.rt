@@ -32,7 +32,7 @@ fn new_shared<L: Law>(
 ) -> Result<(Shared<L>, Vec<Share<L>>), Fail>
     requires blank { IsBlankFor L.name L.parts blank shares }
     requires limit { L.limit ≡ None }
-    requires free { IsFree L.lawful L.allowed }
+    requires free { IsFree L.lawful L.allowed L.begins L.changes }
     requires reached { (p : Place) → L.reached p }
     ensures { IfOk result (λ made. vec_len made.1 ≡ shares) }
 {
@@ -49,7 +49,7 @@ fn write_hundred<L: Law, R: Wait>(
     shared: &Shared<L>,
     share: Share<L>,
 ) -> Share<L>
-    requires { IsFree L.lawful L.allowed }
+    requires { IsFree L.lawful L.allowed L.begins L.changes }
 {
     let mut share = share;
     let mut room = Via::new(rt, shared);
@@ -68,15 +68,15 @@ fn write_in_two<L: Law + Send + Sync, R: Threads + Wait + Sync>(
     first: Share<L>,
     second: Share<L>,
 ) -> (Share<L>, Share<L>)
-    requires { IsFree L.lawful L.allowed }
+    requires { IsFree L.lawful L.allowed L.begins L.changes }
 {
     thread::join(
         rt,
         move || -> Share<L>
-            requires { IsFree L.lawful L.allowed }
+            requires { IsFree L.lawful L.allowed L.begins L.changes }
         { write_hundred(rt, alloc, shared, first) },
         move || -> Share<L>
-            requires { IsFree L.lawful L.allowed }
+            requires { IsFree L.lawful L.allowed L.begins L.changes }
         { write_hundred(rt, alloc, shared, second) },
     )
 }
@@ -96,15 +96,15 @@ fn write_in_pairs<L: Law + Send + Sync, R: Threads + Wait + Sync>(
     left: (Share<L>, Share<L>),
     right: (Share<L>, Share<L>),
 ) -> ((Share<L>, Share<L>), (Share<L>, Share<L>))
-    requires { IsFree L.lawful L.allowed }
+    requires { IsFree L.lawful L.allowed L.begins L.changes }
 {
     thread::join(
         rt,
         move || -> (Share<L>, Share<L>)
-            requires { IsFree L.lawful L.allowed }
+            requires { IsFree L.lawful L.allowed L.begins L.changes }
         { write_in_two(rt, alloc, shared, left.0, left.1) },
         move || -> (Share<L>, Share<L>)
-            requires { IsFree L.lawful L.allowed }
+            requires { IsFree L.lawful L.allowed L.begins L.changes }
         { write_in_two(rt, alloc, shared, right.0, right.1) },
     )
 }
@@ -116,7 +116,7 @@ pub(crate) fn write_in_four<L: Law + Send + Sync, R: Threads + Wait + Sync>(
     shared: &Shared<L>,
     shares: Vec<Share<L>>,
 ) -> Result<Vec<Share<L>>, Fail>
-    requires { IsFree L.lawful L.allowed }
+    requires { IsFree L.lawful L.allowed L.begins L.changes }
     ensures { IfOk result (λ back. vec_len back ≡ 4) }
 {
     let mut shares = shares;
@@ -134,7 +134,7 @@ fn count_in_four<L: Law + Send + Sync, R: Threads + Wait + Sync>(
 ) -> Result<[u64; 3], Fail>
     requires blank { IsBlankFor L.name L.parts blank 4 }
     requires limit { L.limit ≡ None }
-    requires free { IsFree L.lawful L.allowed }
+    requires free { IsFree L.lawful L.allowed L.begins L.changes }
     requires reached { (p : Place) → L.reached p }
 {
     let (shared, shares) = new_shared::<L>(alloc, blank, 4)?;
@@ -145,7 +145,7 @@ fn count_in_four<L: Law + Send + Sync, R: Threads + Wait + Sync>(
 
 /// Writes the job of a number, outside all transactions.
 fn put<L: Law, R: Wait>(rt: &R, alloc: Global, shared: &Shared<L>, number: i128) -> Result<(), Fail>
-    requires { IsFree L.lawful L.allowed }
+    requires { IsFree L.lawful L.allowed L.begins L.changes }
 {
     let Some(tuple) = job(alloc, number) else {
         return Err(Fail::new("a job is to be made"));
@@ -162,7 +162,7 @@ fn wait_in<L: Law, R: Wait>(
     shared: &Shared<L>,
     jobs: &Template,
 ) -> Result<Option<i128>, SharedError>
-    requires { IsFree L.lawful L.allowed }
+    requires { IsFree L.lawful L.allowed L.begins L.changes }
 {
     let (_, tuple) = shared.in_(rt, jobs)?;
     Ok(number_of(&tuple))
@@ -175,15 +175,15 @@ fn wait_for_other<L: Law + Send + Sync, R: Threads + Wait + Sync>(
     jobs: &Template,
     first: Tuple,
 ) -> Result<Option<i128>, Fail>
-    requires { IsFree L.lawful L.allowed }
+    requires { IsFree L.lawful L.allowed L.begins L.changes }
 {
     let (put, got) = thread::join(
         rt,
         move || -> bool
-            requires { IsFree L.lawful L.allowed }
+            requires { IsFree L.lawful L.allowed L.begins L.changes }
         { shared.out(rt, first, Lease::Forever).is_ok() },
         move || -> Option<i128>
-            requires { IsFree L.lawful L.allowed }
+            requires { IsFree L.lawful L.allowed L.begins L.changes }
         { wait_in(rt, shared, jobs).ok().flatten() },
     );
     if !put {
@@ -200,7 +200,7 @@ fn wait_for_job<L: Law + Send + Sync, R: Threads + Wait + Sync>(
 ) -> Result<(Option<i128>, Option<SharedError>), Fail>
     requires blank { IsBlankFor L.name L.parts blank 1 }
     requires limit { L.limit ≡ None }
-    requires free { IsFree L.lawful L.allowed }
+    requires free { IsFree L.lawful L.allowed L.begins L.changes }
     requires reached { (p : Place) → L.reached p }
 {
     let (shared, _shares) = new_shared::<L>(alloc, blank, 1)?;
@@ -227,7 +227,7 @@ fn read<L: Law, R: Wait>(
 
 /// The number of the job that is taken, where one is.
 fn taken<L: Law, R: Wait>(rt: &R, shared: &Shared<L>, jobs: &Template) -> Option<i128>
-    requires { IsFree L.lawful L.allowed }
+    requires { IsFree L.lawful L.allowed L.begins L.changes }
 {
     let (_, tuple) = shared.inp(rt, jobs)?;
     number_of(&tuple)
@@ -241,7 +241,7 @@ fn read_back_in<L: Law, R: Wait>(
 ) -> Result<(Option<i128>, Option<i128>, bool), Fail>
     requires blank { IsBlankFor L.name L.parts blank 1 }
     requires limit { L.limit ≡ None }
-    requires free { IsFree L.lawful L.allowed }
+    requires free { IsFree L.lawful L.allowed L.begins L.changes }
     requires reached { (p : Place) → L.reached p }
 {
     let (shared, _shares) = new_shared::<L>(alloc, blank, 1)?;
@@ -274,7 +274,7 @@ fn take_and_close<L: Law, R: Wait>(
     share: &mut Share<L>,
     jobs: &Template,
 ) -> Result<bool, Fail>
-    requires { IsFree L.lawful L.allowed }
+    requires { IsFree L.lawful L.allowed L.begins L.changes }
 {
     let mut txn = shared.begin(rt, 1000)?;
     shared.inp_in(rt, &mut txn, jobs)?;
@@ -290,7 +290,7 @@ fn close_thrice<L: Law, R: Wait>(
     share: &mut Share<L>,
     jobs: &Template,
 ) -> Result<[bool; 3], Fail>
-    requires { IsFree L.lawful L.allowed }
+    requires { IsFree L.lawful L.allowed L.begins L.changes }
 {
     let with_job = shared.close(rt, jobs);
     read_and_abort(rt, shared, jobs)?;
@@ -317,7 +317,7 @@ fn close_in<L: Law, R: Wait>(
 ) -> Result<([bool; 3], Option<SharedError>, Option<i128>), Fail>
     requires blank { IsBlankFor L.name L.parts blank 1 }
     requires limit { L.limit ≡ None }
-    requires free { IsFree L.lawful L.allowed }
+    requires free { IsFree L.lawful L.allowed L.begins L.changes }
     requires reached { (p : Place) → L.reached p }
 {
     let (shared, mut shares) = new_shared::<L>(alloc, blank, 1)?;
@@ -352,7 +352,7 @@ fn commit_late<L: Law, R: Wait>(
     share: &mut Share<L>,
     jobs: &Template,
 ) -> Result<(Option<CommitError>, Option<i128>), Fail>
-    requires { IsFree L.lawful L.allowed }
+    requires { IsFree L.lawful L.allowed L.begins L.changes }
 {
     let mut txn = shared.begin(rt, 10)?;
     shared.inp_in(rt, &mut txn, jobs)?;
@@ -388,7 +388,7 @@ fn end_in<L: Law, R: Wait>(
 >
     requires blank { IsBlankFor L.name L.parts blank 1 }
     requires limit { L.limit ≡ None }
-    requires free { IsFree L.lawful L.allowed }
+    requires free { IsFree L.lawful L.allowed L.begins L.changes }
     requires reached { (p : Place) → L.reached p }
 {
     let (shared, mut shares) = new_shared::<L>(alloc, blank, 1)?;

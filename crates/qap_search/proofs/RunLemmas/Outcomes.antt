@@ -63,6 +63,12 @@ best_contained S content commits h =
     let itself = is_it-itself w in
     contained content w (omega arith)
 
+-- of this permutation and this cost
+pub best_there : (S : Search) (content : List (List FieldValue)) (commits : ℕ) (h : IsCutTree S content commits) (p : List ℕ) (c : ℤ) → h.permutation ≡ p → h.cost ≡ c → Contains content (best_tuple c p)
+best_there S content commits h p c is costs =
+    subst (λ (q : List ℕ). Contains content (best_tuple c q)) is
+    (subst (λ (z : ℤ). Contains content (best_tuple z h.permutation)) costs (best_contained S content commits h))
+
 -- a tuple of a best permutation that it has says a permutation
 pub best_permutes : (S : Search) (content : List (List FieldValue)) (commits : ℕ) (c : ℤ) (ps : List ℤ) → IsCutTree S content commits → Contains content (best_of c ps) → (p : List ℕ) × IsPerm p × (map pos p ≡ ps)
 best_permutes S content commits c ps h at =

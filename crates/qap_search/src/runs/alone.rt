@@ -58,6 +58,7 @@ fn search<L: Law, R: Wait>(
 ) -> Result<Run, AllocError>
     requires blank { IsBlankFor L.name L.parts blank 1 }
     requires law { IsLawOf (whole instance.now) L.lawful L.allowed }
+    requires lease { L.begins lease_ms }
     requires limit { L.limit ≡ None }
     requires opening { IsOpening (whole instance.now) space }
     requires reached { L.reached (opened space 1 None) }
@@ -97,6 +98,7 @@ fn worked<L: Law, R: Wait>(
     nodes: &Template,
 ) -> Result<Run, AllocError>
     requires law { IsSearchLaw hand.instance L.lawful L.allowed }
+    requires lease { L.begins hand.lease }
     requires fresh { hand.accepted ≡ 0 }
     requires one { L.parts ≡ 1 }
     requires share { shares.items ≡ 0 ∷ [] }
@@ -139,7 +141,7 @@ fn work<L: Law, R: Wait>(
     share: &mut Share<L>,
     nodes: &Template,
 ) -> Ended
-    requires { HasShare L.lawful L.allowed hand.old share.old }
+    requires { HasShare L.lawful L.allowed L.begins hand.old share.old }
     ensures { hand.new.accepted ≡ share.new }
 {
     for _ in rt.forever() {

@@ -5,10 +5,11 @@ ghost use Rattle.qap_search.specs.Runs.Answer.{CertifiesLeast, IsAnswer, IsLeast
 ghost use Rattle.qap_search.specs.Law.CutTree.{IsCutTree};
 ghost use Rattle.qap_search.specs.Runs.Outcome.{IsEndFault, IsEnded, IsFinished};
 ghost use Rattle.qap_search.specs.Tuples.Piece.{open_count};
-ghost use Rattle.qap_search.specs.Runs.Ran.{FaultTells, Tells};
+ghost use Rattle.qap_search.specs.Runs.Ran.{FaultTells, HoldsAnswer, HoldsLeast, Tells};
 ghost use Rattle.qap_search.specs.Law.Replacement.{Best};
 ghost use Rattle.qap_search.specs.Law.Search.{from_root};
-ghost use Rattle.qap_search.specs.Certificate.Stopped.{CertifiesStopped};
+ghost use Rattle.qap_search.specs.Certificate.Finished.{IsAssembled};
+ghost use Rattle.qap_search.specs.Certificate.Stopped.{CertifiesStopped, IsStopped};
 
 use crate::certificate::assembling::{assemble_finished, open_nodes};
 use crate::certificate::best_permutation::best_of;
@@ -43,7 +44,7 @@ pub(crate) fn answer_of<K: Closers>(
     requires ended { (known : Best) × IsEnded (from_root instance.now known) limit run }
     ensures answer { (known : Best) → IsEnded (from_root instance.now known) limit run →
         MatchResult result (IsAnswer instance.now (length run.reports.items) limit) (IsEndFault (from_root instance.now known) limit run) }
-    ensures tells { MatchResult result (λ a. Tells run 0 a.reports.items) (FaultTells run) }
+    ensures tells { MatchResult result (λ a. Tells run (HoldsAnswer instance.now a) a.reports.items) (FaultTells instance.now run) }
 {
     let Finished { tuples, reports } = finished_run(closers, alloc, instance, limit, run)?;
     let certificate = assembled(alloc, instance, tuples)?;
@@ -66,7 +67,7 @@ pub(crate) fn least_of<K: Closers>(
     ensures answer { (known : Best) → IsEnded (from_root instance.now known) limit run →
         MatchResult result (IsLeastFrom (from_root instance.now known) (length run.reports.items) limit)
         (IsEndFault (from_root instance.now known) limit run) }
-    ensures tells { MatchResult result (λ a. Tells run 0 a.reports.items) (FaultTells run) }
+    ensures tells { MatchResult result (λ a. Tells run (HoldsLeast a) a.reports.items) (FaultTells instance.now run) }
 {
     let Finished { tuples, reports } = finished_run(closers, alloc, instance, limit, run)?;
     let (permutation, cost) = best_of(alloc, &tuples)?;
@@ -91,7 +92,7 @@ fn finished_run<K: Closers>(
     requires ended { (known : Best) × IsEnded (from_root instance.now known) limit run }
     ensures finished { (known : Best) → IsEnded (from_root instance.now known) limit run →
         MatchResult result (IsFinished run) (IsEndFault (from_root instance.now known) limit run) }
-    ensures tells { MatchResult result (λ f. Tells run 0 f.reports.items) (FaultTells run) }
+    ensures tells { MatchResult result (λ f. Tells run (λ content. open_count content ≡ 0) f.reports.items) (FaultTells instance.now run) }
 {
     let Run { space, reports } = run;
     let reached = limit == Some(space.commits());
@@ -120,8 +121,9 @@ fn assembled(
 ) -> Result<Certificate, AllocError>
     requires tree { (known : Best) × (commits : ℕ) × IsCutTree (from_root instance.now known) tuples.items commits }
     requires none_open { open_count tuples.items ≡ 0 }
-    ensures { IfOk result (λ c. (known : Best) (commits : ℕ) →
+    ensures certifies { IfOk result (λ c. (known : Best) (commits : ℕ) →
         IsCutTree (from_root instance.now known) tuples.items commits → CertifiesLeast instance.now commits c) }
+    ensures assembled { IfOk result (IsAssembled instance.now.size tuples.items) }
 {
     certificate_law();
     let size = instance.size();
@@ -143,8 +145,9 @@ fn closed<K: Closers>(
     requires ready { K.ready }
     requires tree { (known : Best) × (commits : ℕ) × IsCutTree (from_root instance.now known) tuples.items commits }
     requires open { 0 < open_count tuples.items }
-    ensures { IfOk result (λ c. (known : Best) (commits : ℕ) → IsCutTree (from_root instance.now known) tuples.items commits →
+    ensures certifies { IfOk result (λ c. (known : Best) (commits : ℕ) → IsCutTree (from_root instance.now known) tuples.items commits →
         CertifiesStopped instance.now commits c × (c.cost ≤ℤ known.cost)) }
+    ensures stopped { IfOk result (IsStopped instance.now tuples.items) }
 {
     stopped_law();
     instance.instance_law();

@@ -66,6 +66,7 @@ fn follow<L: Law>(
     requires blank { IsBlankFor L.name L.parts blank workers }
     requires few { workers ≤ 64 }
     requires law { IsLawOf (whole instance.now) L.lawful L.allowed }
+    requires lease { L.begins 1000 }
     requires limit { L.limit ≡ None }
     requires opening { IsOpening (whole instance.now) space }
     requires reached { L.reached (opened space workers None) }
@@ -94,6 +95,7 @@ fn posts_for<L: Law>(
     shares: Vec<Share<L>>,
 ) -> Result<Vec<Post<L>>, AllocError>
     requires law { IsSearchLaw (arc_value rows.now) L.lawful L.allowed }
+    requires lease { L.begins 1000 }
     requires limit { L.limit ≡ None }
     requires fresh { All (λ (n : ℕ). n ≡ 0) shares.items }
     requires few { vec_len shares ≤ 64 }
@@ -118,6 +120,7 @@ fn make<L: Law>(
     room: &mut Alone<L>,
 ) -> Result<(), AllocError>
     requires law { IsSearchLaw (arc_value rows.now) L.lawful L.allowed }
+    requires lease { L.begins 1000 }
     requires ready { AreReady posts.old.items }
     ensures moves { let old : Moment = record { posts = posts.old.items; place = room.old } in let new : Moment = record { posts = posts.new.items; place = room.new } in
         OnOk result (Moves (arc_value rows.now) 1000 old step new) }
@@ -158,6 +161,7 @@ fn lose<L: Law>(
     posts: &mut Vec<Post<L>>,
 ) -> Result<(), AllocError>
     requires law { IsSearchLaw (arc_value rows.now) L.lawful L.allowed }
+    requires lease { L.begins 1000 }
     requires ready { AreReady posts.old.items }
     ensures lost { (place : Place) → let old : Moment = record { posts = posts.old.items; place = place } in let new : Moment = record { posts = posts.new.items; place = place } in
         OnOk result (new ≡ without_worker (arc_value rows.now) 1000 (slice_get posts.old.items worker) worker old) }

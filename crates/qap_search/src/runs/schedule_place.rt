@@ -36,7 +36,7 @@ impl<L: Law> Model for Post<L> {
 
     ghost view = { λ p. record { hand = p.hand; accepted = p.accepted; refused = p.refused } };
 
-    ghost invariant = { λ p. IsSearchLaw p.hand.instance L.lawful L.allowed × (L.limit ≡ None) × (p.accepted + p.hand.accepted ≡ p.share) };
+    ghost invariant = { λ p. IsSearchLaw p.hand.instance L.lawful L.allowed × L.begins p.hand.lease × (L.limit ≡ None) × (p.accepted + p.hand.accepted ≡ p.share) };
 }
 
 impl<L: Law> Post<L> {
@@ -49,6 +49,7 @@ impl<L: Law> Post<L> {
         share: Share<L>,
     ) -> Result<Post<L>, AllocError>
         requires law { IsSearchLaw (arc_value rows.now) L.lawful L.allowed }
+        requires lease { L.begins lease_ms }
         requires limit { L.limit ≡ None }
         requires fresh { share ≡ 0 }
         ensures { IfOk result (λ post. post ≡ beginner (arc_value rows.now) lease_ms) }
@@ -81,6 +82,7 @@ impl<L: Law> Post<L> {
         lease_ms: u64,
     ) -> Result<(), AllocError>
         requires law { IsSearchLaw (arc_value rows.now) L.lawful L.allowed }
+        requires lease { L.begins lease_ms }
         ensures { OnOk result (self.new ≡ after_loss (arc_value rows.now) lease_ms self.old) }
     {
         let hand = Hand::new(alloc, self.worker, rows.clone()?, lease_ms)?;
@@ -109,6 +111,7 @@ fn take_turn<L: Law>(
     room: &mut Alone<L>,
 ) -> Result<(), AllocError>
     requires law { IsSearchLaw hand.old.instance L.lawful L.allowed }
+    requires lease { L.begins hand.old.lease }
     requires limit { L.limit ≡ None }
     requires not_due { is_due hand.old.stage ≡ false }
     requires counted { hand.old.accepted ≤ share.old }
@@ -116,6 +119,7 @@ fn take_turn<L: Law>(
     ensures ready { OnOk result (is_due hand.new.stage ≡ false) }
     ensures counted { share.new + hand.old.accepted ≡ share.old + hand.new.accepted }
     ensures instance { hand.new.instance ≡ hand.old.instance }
+    ensures lease { hand.new.lease ≡ hand.old.lease }
 {
     step(hand, share, room)?;
     if hand.thinks() {
@@ -131,12 +135,14 @@ fn step<L: Law>(
     room: &mut Alone<L>,
 ) -> Result<bool, AllocError>
     requires law { IsSearchLaw hand.old.instance L.lawful L.allowed }
+    requires lease { L.begins hand.old.lease }
     requires limit { L.limit ≡ None }
     requires not_due { is_due hand.old.stage ≡ false }
     requires counted { hand.old.accepted ≤ share.old }
     ensures turn { Turn Did hand.old room.old result hand.new room.new }
     ensures counted { share.new + hand.old.accepted ≡ share.old + hand.new.accepted }
     ensures instance { hand.new.instance ≡ hand.old.instance }
+    ensures lease { hand.new.lease ≡ hand.old.lease }
 {
     no_limit_law();
     hand.step(room, share)

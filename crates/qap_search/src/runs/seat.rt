@@ -6,8 +6,7 @@ ghost use Rattle.qap_search.specs.Runs.Seat.{HasShare, KeepsShare};
 use crate::worker::gate::{Gate, Kind};
 use crate::worker::hand::Hand;
 use crate::worker::report::{Ended, Report};
-use shared_space::{Law, Room, Share, Shared, SharedError, Steps, Via};
-use std::alloc::AllocError;
+use shared_space::{Law, Room, Share, Shared, SharedError, Steps};
 use std::marker::Model;
 use std::sync::Wait;
 use tuple_match::Template;
@@ -39,8 +38,12 @@ pub(crate) struct Seat<L: Law> {
     share: Share<L>,
     /// How it ended, if it has.
     ended: Option<Ended>,
-    /// What it lacked when it went on last.
-    lack: Option<Lack>,
+    /// How far it is in its round over its nodes.
+    round: Round,
+    /// How many steps it may make in a row.
+    in_a_row: usize,
+    /// The last of the steps that it made in a row, and whether it met no refusal.
+    last: Option<(Kind, bool)>,
 }
 
 impl<L: Law> Model for Seat<L> {
@@ -51,13 +54,13 @@ impl<L: Law> Model for Seat<L> {
 
     ghost view = { λ s. s.share };
 
-    ghost invariant = { λ s. HasShare L.lawful L.allowed s.hand s.share };
+    ghost invariant = { λ s. HasShare L.lawful L.allowed L.begins s.hand s.share };
 }
 
 impl<L: Law> Seat<L> {
     /// A worker that hasn't begun, with its share.
     pub(crate) fn new(worker: u16, hand: Hand, share: Share<L>) -> Seat<L>
-        requires { HasShare L.lawful L.allowed hand share }
+        requires { HasShare L.lawful L.allowed L.begins hand share }
         ensures { result ≡ share }
     {
         Seat {
@@ -65,38 +68,50 @@ impl<L: Law> Seat<L> {
             hand,
             share,
             ended: None,
-            lack: None,
+            round: Round::new(0),
+            in_a_row: 1,
+            last: None,
         }
     }
 
     /// Works until the space is closed, the gate ends the worker or memory runs out.
     pub(crate) fn work<R: Wait, G: Gate>(&mut self, place: &Workplace<'_, R, L, G>) {
         for _ in place.rt.forever() {
+            if let Err(ended) = think_on_all(&mut self.hand, place.gate) {
+                self.ended = Some(ended);
+            }
+            self.round = Round::new(place.gate.steps_in_a_row() / STEPS_PER_NODE);
+            self.go_on_at(place);
+            if self.ended.is_none() {
+                self.ended = wait_at(place, self.round.lack).err();
+            }
             if self.ended.is_some() {
                 return;
-            }
-            if place.gate.is_silent() {
-                self.go_on_at(place);
-            } else {
-                self.ended = turn(place, self.worker, &mut self.hand, &mut self.share).err();
             }
         }
     }
 
-    /// Thinks on the nodes that it has at hand; then it goes on with all of them under one taking of the space's lock, and waits for
-    /// what it lacks.
+    /// Goes on until its round is over: by as many steps in a row as the gate allows, each time under one acquisition of the space's
+    /// lock.
     fn go_on_at<R: Wait, G: Gate>(&mut self, place: &Workplace<'_, R, L, G>) {
-        self.ended = think_on_all(&mut self.hand, place.gate).err();
-        if self.ended.is_some() {
-            return;
+        for _ in place.rt.forever() {
+            if self.ended.is_some() {
+                return;
+            }
+            let Some(kind) = due(&mut self.hand, &mut self.round) else {
+                return;
+            };
+            if !place.gate.pass(self.worker, kind) {
+                self.ended = Some(Ended::ByGate);
+                return;
+            }
+            self.in_a_row = place.gate.steps_in_a_row();
+            self.last = None;
+            place.shared.together(place.rt, self);
+            if let Some((kind, accepted)) = self.last {
+                place.gate.after(self.worker, kind, accepted);
+            }
         }
-        self.lack = None;
-        place.shared.together(place.rt, self);
-        self.ended = match (self.ended, self.lack) {
-            (None, Some(Lack::Node)) => wait_for(place, place.nodes).err(),
-            (None, Some(Lack::Best)) => wait_for(place, place.best).err(),
-            (ended, _) => ended,
-        };
     }
 
     /// The share, and what the worker reports; one that has never run counts as one that found no memory.
@@ -109,7 +124,9 @@ impl<L: Law> Seat<L> {
             hand,
             share,
             ended,
-            lack: _,
+            round: _,
+            in_a_row: _,
+            last: _,
         } = self;
         let report = Report {
             ended: ended.unwrap_or(Ended::Memory),
@@ -120,12 +137,107 @@ impl<L: Law> Seat<L> {
 }
 
 impl<L: Law> Steps<L> for Seat<L> {
-    /// Goes on from its nodes to others.
+    /// Goes on by as many steps as it may make in a row.
     fn make<M: Room<L>>(&mut self, room: &mut M) {
-        match go_on(room, &mut self.hand, &mut self.share) {
-            Ok(lack) => self.lack = lack,
-            Err(ended) => self.ended = Some(ended),
+        for _ in 0..self.in_a_row {
+            match go_on(room, &mut self.hand, &mut self.share, &mut self.round) {
+                Ok(Some(made)) => self.last = Some(made),
+                Ok(None) => return,
+                Err(ended) => {
+                    self.ended = Some(ended);
+                    return;
+                }
+            }
         }
+    }
+}
+
+/// The kinds of steps by which a worker finishes with a node that it evaluated: it reads or takes the best permutation and commits
+/// what it decided, or gives the node up.
+const FINISHING: [Kind; 4] = [Kind::ReadBest, Kind::TakeBest, Kind::Commit, Kind::Abort];
+
+/// The kinds of steps by which it takes a node, or gives the transaction up if there is none.
+const TAKING: [Kind; 3] = [Kind::Begin, Kind::TakeNode, Kind::Abort];
+
+/// How many steps it takes at most to finish with a node and to take another one.
+const STEPS_PER_NODE: usize = 7;
+
+/// How far a worker is in a round over its jobs: it finishes with the node of each, and then takes a node for each, as far as there
+/// are any. At each job it goes through a list of kinds, and makes a step of a kind where that is due.
+#[derive(Clone, Copy, Debug, PartialEq, Eq)]
+struct Round {
+    /// How many jobs it turns to at most: those whose steps it may make in a row, besides the one that it is at.
+    most: usize,
+    /// Whether it takes nodes now.
+    takes: bool,
+    /// How many jobs it has turned to.
+    turned: usize,
+    /// How many kinds it has gone through at this job.
+    kinds: usize,
+    /// What it lacks.
+    lack: Option<Lack>,
+    /// There is no node for further jobs.
+    is_last: bool,
+}
+
+impl Round {
+    /// At its beginning, with this many jobs to turn to at most.
+    fn new(most: usize) -> Round {
+        Round {
+            most,
+            takes: false,
+            turned: 0,
+            kinds: 0,
+            lack: None,
+            is_last: false,
+        }
+    }
+
+    /// The kind that is next at this job; `None` if it is through with the job.
+    fn kind(&self) -> Option<Kind> {
+        if self.takes {
+            TAKING.get(self.kinds).copied()
+        } else {
+            FINISHING.get(self.kinds).copied()
+        }
+    }
+
+    /// Takes note of a step of this kind, which leaves the worker at a stage whose next step is of another one.
+    fn note(&mut self, kind: Kind, next: Option<Kind>) {
+        self.kinds = self.kinds.saturating_add(1);
+        if next != Some(Kind::Abort) {
+            return;
+        }
+        match kind {
+            Kind::ReadBest | Kind::TakeBest => self.lack = Some(Lack::Best),
+            Kind::TakeNode => {
+                self.is_last = true;
+                if self.turned == 0 {
+                    self.lack = Some(Lack::Node);
+                }
+            }
+            Kind::Begin | Kind::Commit | Kind::Abort => {}
+        }
+    }
+
+    /// Leaves a job that it is through with: `false` if the round is over. A worker that lacks the best permutation takes no nodes.
+    fn leave(&mut self, hand: &mut Hand) -> bool
+        ensures accepted { hand.new.accepted ≡ hand.old.accepted }
+        ensures instance { hand.new.instance ≡ hand.old.instance }
+        ensures lease { hand.new.lease ≡ hand.old.lease }
+    {
+        self.kinds = 0;
+        if self.turned < hand.others().min(self.most) && !self.is_last {
+            hand.turn_to(self.turned);
+            self.turned += 1;
+            return true;
+        }
+        if self.takes || self.lack.is_some() {
+            return false;
+        }
+        self.takes = true;
+        self.turned = 0;
+        true
     }
 }
 
@@ -138,10 +250,75 @@ fn next_of(hand: &Hand) -> Option<Kind> {
     }
 }
 
+/// Goes on in the round to the next step that is due, and returns its kind; `None` if the round is over.
+fn due(hand: &mut Hand, round: &mut Round) -> Option<Kind>
+    ensures accepted { hand.new.accepted ≡ hand.old.accepted }
+    ensures instance { hand.new.instance ≡ hand.old.instance }
+    ensures lease { hand.new.lease ≡ hand.old.lease }
+{
+    for _ in 0..u64::MAX {
+        match round.kind() {
+            Some(kind) if next_of(hand) == Some(kind) => return Some(kind),
+            Some(_) => round.kinds = round.kinds.saturating_add(1),
+            None => {
+                if !round.leave(hand) {
+                    return None;
+                }
+            }
+        }
+    }
+    None
+}
+
+/// Makes the next step of the round, and returns its kind and whether it met no refusal; `None` if the round is over. No transaction
+/// begins on a closed space. The error is how the worker ends.
+fn go_on<L: Law, M: Room<L>>(
+    room: &mut M,
+    hand: &mut Hand,
+    share: &mut Share<L>,
+    round: &mut Round,
+) -> Result<Option<(Kind, bool)>, Ended>
+    requires { HasShare L.lawful L.allowed L.begins hand.old share.old }
+    ensures { KeepsShare hand.old hand.new share.new }
+{
+    let Some(kind) = due(hand, round) else {
+        return Ok(None);
+    };
+    if kind == Kind::Begin && room.closed() {
+        return Err(Ended::Done);
+    }
+    let accepted = step(room, hand, share)?;
+    round.note(kind, next_of(hand));
+    Ok(Some((kind, accepted)))
+}
+
+/// Makes the worker's next step, and reports whether it met no refusal. What an ended transaction held is kept, to be dropped outside
+/// the space's lock.
+fn step<L: Law, M: Room<L>>(
+    room: &mut M,
+    hand: &mut Hand,
+    share: &mut Share<L>,
+) -> Result<bool, Ended>
+    requires { HasShare L.lawful L.allowed L.begins hand.old share.old }
+    ensures { KeepsShare hand.old hand.new share.new }
+{
+    if hand.thinks() {
+        return Ok(true);
+    }
+    let Ok(accepted) = hand.step(room, share) else {
+        return Err(Ended::Memory);
+    };
+    if let Some(spent) = room.take_spent() {
+        hand.keep(spent);
+    }
+    Ok(accepted)
+}
+
 /// Evaluates each of its nodes that is due, and prepares its writes. The error is how the worker ends.
 fn think_on_all<G: Gate>(hand: &mut Hand, gate: &G) -> Result<(), Ended>
     ensures accepted { hand.new.accepted ≡ hand.old.accepted }
     ensures instance { hand.new.instance ≡ hand.old.instance }
+    ensures lease { hand.new.lease ≡ hand.old.lease }
 {
     think(hand, gate)?;
     for other in 0..hand.others() {
@@ -154,6 +331,7 @@ fn think_on_all<G: Gate>(hand: &mut Hand, gate: &G) -> Result<(), Ended>
 fn think<G: Gate>(hand: &mut Hand, gate: &G) -> Result<(), Ended>
     ensures accepted { hand.new.accepted ≡ hand.old.accepted }
     ensures instance { hand.new.instance ≡ hand.old.instance }
+    ensures lease { hand.new.lease ≡ hand.old.lease }
 {
     if hand.thinks() && hand.think(gate).is_err() {
         return Err(Ended::Memory);
@@ -162,205 +340,16 @@ fn think<G: Gate>(hand: &mut Hand, gate: &G) -> Result<(), Ended>
     Ok(())
 }
 
-/// Moves on from its nodes to others: commits what was decided about them and then, unless the space is closed, takes
-/// as many others. It reports what is missing if none can be taken; the error is how the worker ends.
-fn go_on<L: Law, M: Room<L>>(
-    room: &mut M,
-    hand: &mut Hand,
-    share: &mut Share<L>,
-) -> Result<Option<Lack>, Ended>
-    requires { HasShare L.lawful L.allowed hand.old share.old }
-    ensures { KeepsShare hand.old hand.new share.new }
-{
-    if !commit_all(room, hand, share)? {
-        return Ok(Some(Lack::Best));
-    }
-    if room.closed() {
-        return Err(Ended::Done);
-    }
-    if !take_all(room, hand, share)? {
-        return Ok(Some(Lack::Node));
-    }
-    Ok(None)
-}
-
-/// Commits what is decided of each node at hand, and reports whether there was a best permutation wherever one was
-/// looked for.
-fn commit_all<L: Law, M: Room<L>>(
-    room: &mut M,
-    hand: &mut Hand,
-    share: &mut Share<L>,
-) -> Result<bool, Ended>
-    requires { HasShare L.lawful L.allowed hand.old share.old }
-    ensures { KeepsShare hand.old hand.new share.new }
-{
-    let mut found = commit(room, hand, share)?;
-    for other in 0..hand.others() {
-        hand.turn_to(other);
-        let found_here = commit(room, hand, share)?;
-        found = found && found_here;
-    }
-    Ok(found)
-}
-
-/// Reads or takes the best permutation for a node that was evaluated and commits what it leads to; what can't be
-/// committed is given up.
-fn commit<L: Law, M: Room<L>>(
-    room: &mut M,
-    hand: &mut Hand,
-    share: &mut Share<L>,
-) -> Result<bool, Ended>
-    requires { HasShare L.lawful L.allowed hand.old share.old }
-    ensures { KeepsShare hand.old hand.new share.new }
-{
-    step_if(room, hand, share, Kind::ReadBest)?;
-    step_if(room, hand, share, Kind::TakeBest)?;
-    let found = next_of(hand) != Some(Kind::Abort);
-    step_if(room, hand, share, Kind::Commit)?;
-    give_up(room, hand, share)?;
-    Ok(found)
-}
-
-/// Takes an open node for each job, as far as there are any, and reports whether there was one at all.
-fn take_all<L: Law, M: Room<L>>(
-    room: &mut M,
-    hand: &mut Hand,
-    share: &mut Share<L>,
-) -> Result<bool, Ended>
-    requires { HasShare L.lawful L.allowed hand.old share.old }
-    ensures { KeepsShare hand.old hand.new share.new }
-{
-    if !take(room, hand, share)? {
-        return Ok(false);
-    }
-    for other in 0..hand.others() {
-        hand.turn_to(other);
-        if !take(room, hand, share)? {
-            return Ok(true);
-        }
-    }
-    Ok(true)
-}
-
-/// Takes an open node, in its own transaction, and returns whether there was one; otherwise the transaction is given
-/// up.
-fn take<L: Law, M: Room<L>>(
-    room: &mut M,
-    hand: &mut Hand,
-    share: &mut Share<L>,
-) -> Result<bool, Ended>
-    requires { HasShare L.lawful L.allowed hand.old share.old }
-    ensures { KeepsShare hand.old hand.new share.new }
-{
-    step_if(room, hand, share, Kind::Begin)?;
-    step_if(room, hand, share, Kind::TakeNode)?;
-    let took = next_of(hand) != Some(Kind::Abort);
-    give_up(room, hand, share)?;
-    Ok(took)
-}
-
-/// Gives up what must be given up. What the ended transaction held is kept, to be dropped outside the space's lock.
-fn give_up<L: Law, M: Room<L>>(
-    room: &mut M,
-    hand: &mut Hand,
-    share: &mut Share<L>,
-) -> Result<(), Ended>
-    requires { HasShare L.lawful L.allowed hand.old share.old }
-    ensures { KeepsShare hand.old hand.new share.new }
-{
-    step_if(room, hand, share, Kind::Abort)?;
-    if let Some(spent) = room.take_spent() {
-        hand.keep(spent);
-    }
-    Ok(())
-}
-
-/// Makes the next step where it is of this kind.
-fn step_if<L: Law, M: Room<L>>(
-    room: &mut M,
-    hand: &mut Hand,
-    share: &mut Share<L>,
-    kind: Kind,
-) -> Result<(), Ended>
-    requires { HasShare L.lawful L.allowed hand.old share.old }
-    ensures { KeepsShare hand.old hand.new share.new }
-{
-    if hand.thinks() || hand.next() != kind {
-        return Ok(());
-    }
-    match hand.step(room, share) {
-        Ok(_) => Ok(()),
-        Err(AllocError) => Err(Ended::Memory),
-    }
-}
-
-/// One turn: an evaluation if one is due, otherwise a step that the gate allows. No transaction begins on a closed
-/// space. A worker that found no incumbent gives its transaction up at once and waits for one, and one that gave up for
-/// another reason waits for a node. The error is how the worker ends.
-fn turn<R: Wait, L: Law, G: Gate>(
+/// Waits for what the worker lacks, if it lacks anything. The error is how the worker ends.
+fn wait_at<R: Wait, L: Law, G: Gate>(
     place: &Workplace<'_, R, L, G>,
-    worker: u16,
-    hand: &mut Hand,
-    share: &mut Share<L>,
-) -> Result<(), Ended>
-    requires { HasShare L.lawful L.allowed hand.old share.old }
-    ensures { KeepsShare hand.old hand.new share.new }
-{
-    if hand.thinks() {
-        return hand.think(place.gate).map_err(|_| Ended::Memory);
+    lack: Option<Lack>,
+) -> Result<(), Ended> {
+    match lack {
+        Some(Lack::Node) => wait_for(place, place.nodes),
+        Some(Lack::Best) => wait_for(place, place.best),
+        None => Ok(()),
     }
-    let kind = hand.next();
-    if kind == Kind::Begin && place.shared.closed(place.rt) {
-        return Err(Ended::Done);
-    }
-    step(place, worker, kind, hand, share)?;
-    match kind {
-        Kind::Abort => wait_for(place, place.nodes),
-        Kind::TakeBest | Kind::ReadBest if next_of(hand) == Some(Kind::Abort) => {
-            wait_for_best(place, worker, hand, share)
-        }
-        _ => Ok(()),
-    }
-}
-
-/// Gives the transaction up and waits for an incumbent, which another worker has taken. The error is how the worker
-/// ends.
-fn wait_for_best<R: Wait, L: Law, G: Gate>(
-    place: &Workplace<'_, R, L, G>,
-    worker: u16,
-    hand: &mut Hand,
-    share: &mut Share<L>,
-) -> Result<(), Ended>
-    requires { HasShare L.lawful L.allowed hand.old share.old }
-    ensures { KeepsShare hand.old hand.new share.new }
-{
-    step(place, worker, Kind::Abort, hand, share)?;
-    wait_for(place, place.best)
-}
-
-/// Makes the next step, which is of this kind, where the gate lets it pass.
-fn step<R: Wait, L: Law, G: Gate>(
-    place: &Workplace<'_, R, L, G>,
-    worker: u16,
-    kind: Kind,
-    hand: &mut Hand,
-    share: &mut Share<L>,
-) -> Result<(), Ended>
-    requires { HasShare L.lawful L.allowed hand.old share.old }
-    ensures { KeepsShare hand.old hand.new share.new }
-{
-    if hand.thinks() {
-        return Ok(());
-    }
-    if !place.gate.pass(worker, kind) {
-        return Err(Ended::ByGate);
-    }
-    let mut room = Via::new(place.rt, place.shared);
-    let Ok(accepted) = hand.step(&mut room, share) else {
-        return Err(Ended::Memory);
-    };
-    place.gate.after(worker, kind, accepted);
-    Ok(())
 }
 
 /// Waits until there is a tuple matching the template. The error is how the worker ends: if the space is closed it is

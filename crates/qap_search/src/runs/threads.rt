@@ -5,7 +5,7 @@ ghost use Rattle.std.specs.List.{sum_by};
 ghost use Rattle.qap_search.specs.Runs.Answer.{IsAnswer, IsLeastAnswer, IsSolveFault, accepted_of};
 ghost use Rattle.qap_search.specs.Runs.Outcome.{IsEnded};
 ghost use Rattle.qap_search.specs.Runs.Opening.{IsOpening};
-ghost use Rattle.qap_search.specs.Runs.Ran.{Ran, RanTo, RanToFault};
+ghost use Rattle.qap_search.specs.Runs.Ran.{HoldsAnswer, HoldsLeast, Ran, RanTo, RanToFault};
 ghost use Rattle.qap_search.specs.Law.Search.{Search, whole};
 ghost use Rattle.qap_search.specs.Law.SearchLaw.{IsLawOf, IsSearchLaw};
 ghost use Rattle.shared_space.specs.Opening.{IsBlankFor, MayOpen, opened};
@@ -75,8 +75,8 @@ where
     requires some { 0 < crew.workers }
     requires few { crew.workers ≤ 64 }
     ensures answer { MatchResult result (IsAnswer instance.now crew.workers crew.limit) (IsSolveFault instance.now crew.workers crew.limit) }
-    ensures ran { MatchResult result (λ a. Ran (whole instance.now) crew.workers crew.limit (accepted_of a.reports.items) 0)
-        (RanToFault (whole instance.now) crew.workers crew.limit) }
+    ensures ran { MatchResult result (λ a. Ran (whole instance.now) crew (accepted_of a.reports.items) (HoldsAnswer instance.now a))
+        (RanToFault (whole instance.now) crew) }
 {
     let run = run_of(rt, alloc, instance, crew, pace)?;
     answer_of(
@@ -104,8 +104,8 @@ where
     requires some { 0 < crew.workers }
     requires few { crew.workers ≤ 64 }
     ensures answer { MatchResult result (IsLeastAnswer instance.now crew.workers crew.limit) (IsSolveFault instance.now crew.workers crew.limit) }
-    ensures ran { MatchResult result (λ a. Ran (whole instance.now) crew.workers crew.limit (accepted_of a.reports.items) 0)
-        (RanToFault (whole instance.now) crew.workers crew.limit) }
+    ensures ran { MatchResult result (λ a. Ran (whole instance.now) crew (accepted_of a.reports.items) (HoldsLeast a))
+        (RanToFault (whole instance.now) crew) }
 {
     let run = run_of(rt, alloc, instance, crew, pace)?;
     least_of(
@@ -133,8 +133,7 @@ where
     requires few { crew.workers ≤ 64 }
     ensures ended { IfOk result (IsEnded (whole instance.now) crew.limit) }
     ensures one_each { IfOk result (λ run. length run.reports.items ≡ crew.workers) }
-    ensures ran { IfOk result (λ run. RanTo (whole instance.now) crew.workers crew.limit
-        run.space) }
+    ensures ran { IfOk result (λ run. RanTo (whole instance.now) crew run.space) }
 {
     let space = opening_space(alloc, instance)?;
     let blank = Blank::new(u64::from(crew.workers));
@@ -160,6 +159,7 @@ where
     requires blank { IsBlankFor L.name L.parts blank crew.workers }
     requires few { crew.workers ≤ 64 }
     requires law { IsLawOf (whole instance.now) L.lawful L.allowed }
+    requires lease { L.begins crew.lease_ms }
     requires limit { L.limit ≡ crew.limit }
     requires opening { IsOpening (whole instance.now) space }
     requires reached { L.reached (opened space crew.workers crew.limit) }
@@ -208,6 +208,7 @@ fn staff<L: Law>(
     requires blank { IsBlankFor L.name L.parts blank crew.workers }
     requires few { crew.workers ≤ 64 }
     requires law { IsSearchLaw instance.now L.lawful L.allowed }
+    requires lease { L.begins crew.lease_ms }
     requires limit { L.limit ≡ crew.limit }
     requires space { MayOpen L.lawful crew.limit L.reached space crew.workers }
     ensures { IfOk result (λ made. vec_len made.seats ≡ crew.workers) }
@@ -264,6 +265,7 @@ fn seats_for<L: Law>(
     shares: Vec<Share<L>>,
 ) -> Result<Vec<Mutex<Seat<L>>>, AllocError>
     requires law { IsSearchLaw (arc_value ranked.now) L.lawful L.allowed }
+    requires lease { L.begins crew.lease_ms }
     requires fresh { All (λ (n : ℕ). n ≡ 0) shares.items }
     requires few { vec_len shares ≤ 64 }
     ensures { IfOk result (λ seats. vec_len seats ≡ vec_len shares) }

@@ -19,7 +19,8 @@ pub enum Kind {
     Abort,
 }
 
-/// Is consulted before each step of a worker, and informed after it; both outside the space's lock.
+/// Is consulted before the steps of a worker, each by itself unless it lets several be made in a row, and informed after them; both
+/// outside the space's lock.
 pub trait Gate {
     /// Whether the worker may go on; `false` ends it, and its transaction is dropped.
     fn pass(&self, worker: u16, kind: Kind) -> bool;
@@ -30,10 +31,10 @@ pub trait Gate {
     /// The worker has a node's Gilmore-Lawler matrix and computes its duals.
     fn thinking(&self, worker: u16);
 
-    /// Whether it lets every step pass and needs no reports. A worker then makes consecutive steps under one
-    /// acquisition of the space's lock, and neither consults nor informs it.
-    fn is_silent(&self) -> bool {
-        false
+    /// How many steps a worker makes in a row, at most, under one acquisition of the space's lock. It is consulted before the first of
+    /// them and informed after the last.
+    fn steps_in_a_row(&self) -> usize {
+        1
     }
 }
 
@@ -52,7 +53,7 @@ impl Gate for Always {
 
     fn thinking(&self, _worker: u16) {}
 
-    fn is_silent(&self) -> bool {
-        true
+    fn steps_in_a_row(&self) -> usize {
+        usize::MAX
     }
 }

@@ -146,6 +146,7 @@ impl Hand {
         share: &mut Share<L>,
     ) -> Result<bool, AllocError>
         requires law { IsSearchLaw self.old.instance L.lawful L.allowed }
+        requires lease { L.begins self.old.lease }
         requires not_due { is_due self.old.stage ≡ false }
         requires counted { self.old.accepted ≤ share.old }
         ensures turn { Turn M.did self.old room.old result self.new room.new }
@@ -181,6 +182,7 @@ impl Hand {
         ensures unchanged { OnErr result (self.new ≡ self.old) }
         ensures accepted { self.new.accepted ≡ self.old.accepted }
         ensures instance { self.new.instance ≡ self.old.instance }
+        ensures lease { self.new.lease ≡ self.old.lease }
     {
         self.job.reserve.restock(self.tools.alloc);
         self.job.prepared.forget();

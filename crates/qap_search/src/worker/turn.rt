@@ -35,6 +35,7 @@ pub(crate) fn turn<L: Law, M: Room<L>>(
     spare: &mut Option<Spare>,
 ) -> Outcome
     requires hand { IsSearchHand L.lawful L.allowed tools.now last.now standing.stage }
+    requires lease { L.begins tools.now.lease_ms }
     requires not_due { is_due standing.stage ≡ false }
     requires counted { standing.tally.accepted ≤ share.old }
     ensures turn { (I : Problem) → IsAtWork I L.lawful L.allowed tools.now last.now prepared.old standing.stage →
@@ -93,6 +94,7 @@ fn begin<L: Law, M: Room<L>>(
     spare: &mut Option<Spare>,
     tally: Tally,
 ) -> Outcome
+    requires { L.begins lease_ms }
     ensures turn { (I : Problem) (last : Option ThoughtValue) →
         TurnsInto M.did I lease_ms last Idle tally room.old result room.new }
     ensures stage { (I : Problem) (last : Option ThoughtValue) → IsStage I last result.stage }

@@ -17,9 +17,11 @@ ghosts-follow-L-Law g a =
     record {
       lawful = λ content commits. IsSearched S content;
       allowed = MayReplace I;
+      begins = λ _. Unit {0};
+      changes = Unit {0};
       limit = None;
       reached = λ _. Unit {0};
       unordered = searched_unordered S;
       keeps = searched_kept S;
-      goes_on = λ _ _ _ _ _ _. tt;
+      goes_on = λ _ _ _ _ _ _ _. tt;
     }

@@ -16,9 +16,11 @@ ghosts-search-L-Law g a =
     record {
       lawful = λ content commits. IsSearched S content;
       allowed = MayReplace I;
+      begins = λ _. Unit {0};
+      changes = Unit {0};
       limit = a.crew.limit;
       reached = λ _. Unit {0};
       unordered = searched_unordered S;
       keeps = searched_kept S;
-      goes_on = λ _ _ _ _ _ _. tt;
+      goes_on = λ _ _ _ _ _ _ _. tt;
     }

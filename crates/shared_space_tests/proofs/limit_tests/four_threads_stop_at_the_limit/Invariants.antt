@@ -9,9 +9,11 @@ abbrev pub ghosts-race_in_four-L-Law : goal.ghosts-race_in_four-L-Law
 ghosts-race_in_four-L-Law g a = record {
   lawful = λ _ _. Unit {0};
   allowed = λ _ _ _. Unit {0};
+  begins = λ _. Unit {0};
+  changes = Unit {0};
   limit = Some a.limit;
   reached = λ _. Unit {0};
   unordered = λ _ _ _ _ _. tt;
   keeps = λ _ _ _ _ _ _ _. tt;
-  goes_on = λ _ _ _ _ _ _. tt;
+  goes_on = λ _ _ _ _ _ _ _. tt;
 }

@@ -19,8 +19,12 @@ unreachable-requires-in-Err-NotATree c =
     let found = c.certificate_law.ensures.there I c.requires.tree.0 tuples c.requires.tree.1 c.size-size.ensures.instance c.requires.tree.2 c.requires.none_open in
     none found.0 (subst (λ n. IsAssembled n tuples found.0) (sym c.size-size.ensures.value) found.1)
 
-pub returns-in-Ok : goal.returns-in-Ok
-returns-in-Ok c = λ known commits tree.
+pub returns-in-Ok-clause-assembled : goal.returns-in-Ok-clause-assembled
+returns-in-Ok-clause-assembled c =
+    subst (λ n. IsAssembled n c.args.tuples.items c.in-Ok.certificate) c.size-size.ensures.value (c.in-Ok.ensures {u = tt})
+
+pub returns-in-Ok-clause-certifies : goal.returns-in-Ok-clause-certifies
+returns-in-Ok-clause-certifies c = λ known commits tree.
     let I = c.args.instance.now in
     let tuples = c.args.tuples.items in
     let C = c.in-Ok.certificate in

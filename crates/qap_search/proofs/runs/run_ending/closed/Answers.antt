@@ -10,8 +10,8 @@ unreachable-requires-in-Err-NotATree g c =
     let tree = c.requires.tree in
     c.stopped_law.ensures.not_refused I tree.0 tuples tree.1 c.instance_law.ensures tree.2 fault
 
-pub returns-in-Ok : goal.returns-in-Ok
-returns-in-Ok g c = λ known commits tree.
+pub returns-in-Ok-clause-certifies : goal.returns-in-Ok-clause-certifies
+returns-in-Ok-clause-certifies g c = λ known commits tree.
     let I = c.args.instance.now in
     let tuples = c.args.tuples.items in
     let C = c.in-Ok.certificate in

@@ -9,7 +9,7 @@ returns-clause-finished g c = λ known ended.
     let I = c.args.instance.now in
     let commits = c.args.run.space.commits in
     let tree : IsCutTree (from_root I known) c.in-Ok.tuples.items commits = rw (c.in-Ok.ensures.ok) ended.tree in
-    let closed = c.in_ok-certificate.ensures {u = tt} known commits tree in
+    let closed = c.in_ok-certificate.ensures.certifies known commits tree in
     let count = c.open_nodes-open.ensures ∙ ap open_count (c.deref.ensures.value ∙ c.in-Ok.ensures.ok) in
     let some = c.if-open-eq0.false in (
       omega (arith, count, some),

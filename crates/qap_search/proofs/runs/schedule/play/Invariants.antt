@@ -13,9 +13,11 @@ abbrev pub ghosts-follow-L-Law : goal.ghosts-follow-L-Law
 ghosts-follow-L-Law a = record {
   lawful = IsCutTree (whole a.instance.now);
   allowed = MayReplace a.instance.now;
+  begins = λ _. Unit {0};
+  changes = Unit {0};
   limit = None;
   reached = λ _. Unit {0};
   unordered = cut_trees_unordered (whole a.instance.now);
   keeps = cut_trees_kept (whole a.instance.now);
-  goes_on = λ _ _ _ _ _ _. tt;
+  goes_on = λ _ _ _ _ _ _ _. tt;
 }

@@ -1,3 +1,4 @@
+use Rattle.std.proofs.Common.{◌≡◌, ℕ, refl}
 use Rattle.std.proofs.lemmas.Result.{IfOk-weaker}
 use Rattle.shared_space.proofs.RunLemmas.{no_acts_yet}
 use Rattle.qap_search.specs.Law.Replacement.{MayReplace}
@@ -19,4 +20,7 @@ pub search-requires-clause-reached : goal.search-requires-clause-reached
 search-requires-clause-reached g c =
     let I = c.args.instance.now in
     let S = whole I in
-    λ κs alive. no_acts_yet (MayReplace S.instance) c.args.crew.limit _
+    λ κs alive. no_acts_yet (MayReplace S.instance) (λ (lease : ℕ). lease ≡ c.args.crew.lease_ms) ⊥ c.args.crew.limit _
+
+pub search-requires-clause-lease : goal.search-requires-clause-lease
+search-requires-clause-lease g c = λ κs alive. refl

@@ -1,5 +1,6 @@
 use Rattle.std.proofs.Common.{length}
 use Rattle.qap_search.specs.Runs.Answer.{IsAnswer}
+use Rattle.qap_search.specs.Runs.Ran.{HoldsAnswer}
 use Rattle.qap_search.specs.Law.Search.{whole}
 use Rattle.qap_search.specs.declared.runs.answer.Answer.{Answer}
 use Rattle.qap_search.proofs.RunLemmas.BehindAnswers.{ran_behind}
@@ -19,5 +20,5 @@ returns-clause-ran g c =
     let limit = c.args.crew.limit in
     let run = c.in_ok-run.run' in
     let ended = c.in_ok-run.ensures.ended in
-    ran_behind (λ (a : Answer). a.reports.items) (whole I) c.args.crew.workers limit run (λ (a : Answer). IsAnswer I (length run.reports.items) limit a) c.answer_of.result c.in_ok-run.ensures.ran ended
+    ran_behind (λ (a : Answer). a.reports.items) (HoldsAnswer I) (whole I) c.args.crew run (λ (a : Answer). IsAnswer I (length run.reports.items) limit a) c.answer_of.result c.in_ok-run.ensures.ran ended
     (c.answer_of.ensures.answer (whole I).known ended) c.answer_of.ensures.tells

@@ -1,5 +1,6 @@
 use Rattle.std.proofs.Common.{length}
 use Rattle.qap_search.specs.Runs.Answer.{IsLeastFrom}
+use Rattle.qap_search.specs.Runs.Ran.{HoldsLeast}
 use Rattle.qap_search.specs.Law.Search.{whole}
 use Rattle.qap_search.specs.declared.runs.answer.Least.{Least}
 use Rattle.qap_search.proofs.RunLemmas.BehindAnswers.{ran_behind}
@@ -21,5 +22,5 @@ returns-clause-ran g c =
     let limit = c.args.crew.limit in
     let run = c.in_ok-run.run' in
     let ended = c.in_ok-run.ensures.ended in
-    ran_behind (λ (a : Least). a.reports.items) S c.args.crew.workers limit run (λ (a : Least). IsLeastFrom S (length run.reports.items) limit a) c.least_of.result c.in_ok-run.ensures.ran ended
+    ran_behind (λ (a : Least). a.reports.items) HoldsLeast S c.args.crew run (λ (a : Least). IsLeastFrom S (length run.reports.items) limit a) c.least_of.result c.in_ok-run.ensures.ran ended
     (c.least_of.ensures.answer S.known ended) c.least_of.ensures.tells

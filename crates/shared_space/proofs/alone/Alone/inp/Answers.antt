@@ -16,7 +16,7 @@ invariant_of-self g c =
     let h = c.self.invariant in (
       h.0,
       h.1 ∙ sym same,
-      under_uncounted law.lawful law.allowed law.limit law.reached law.goes_on (place_of a.space a.shares a.left a.closed) (place_of new a.shares a.left a.closed)
-          (outside (inp c.args.template.now) (inp_reply c.inp.result)) tt (c.inp.ensures.step, ap (λ (w : World). place_of w a.shares a.left a.closed) rest)
+      under_uncounted law.lawful law.allowed law.begins law.changes law.limit law.reached law.goes_on (place_of a.space a.shares a.left a.closed) (place_of new a.shares a.left a.closed)
+          (outside (inp c.args.template.now) (inp_reply c.inp.result)) c.requires.may_change (c.inp.ensures.step, ap (λ (w : World). place_of w a.shares a.left a.closed) rest) tt
           (c.requires.holds _ _) same (λ closed. closed) h.2,
     )

@@ -14,6 +14,6 @@ invariant_of-self g c =
     let h = c.self.invariant in (
       h.0,
       h.1,
-      under_uncounted law.lawful law.allowed law.limit law.reached law.goes_on old new
-          leaves tt (sym (cond-true (ltb a.left a.shares) new old (lt-ltb a.left a.shares c.if-self.true))) h.2.content refl (λ closed. closed) h.2,
+      under_uncounted law.lawful law.allowed law.begins law.changes law.limit law.reached law.goes_on old new
+          leaves tt (sym (cond-true (ltb a.left a.shares) new old (lt-ltb a.left a.shares c.if-self.true))) (record { same = λ f. refl; counted = refl }) h.2.content refl (λ closed. closed) h.2,
     )

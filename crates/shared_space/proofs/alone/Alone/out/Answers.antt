@@ -16,7 +16,7 @@ invariant_of-self g c =
     let h = c.self.invariant in (
       h.0,
       h.1 ∙ sym same,
-      under_uncounted law.lawful law.allowed law.limit law.reached law.goes_on (place_of a.space a.shares a.left a.closed) (place_of new a.shares a.left a.closed)
-          (outside (out c.args.tuple c.args.lease) (out_reply c.out.result)) tt (c.out.ensures.step, ap (λ (w : World). place_of w a.shares a.left a.closed) rest)
-          (out_lawful law.lawful law.allowed a.space new c.args.tuple c.args.lease (out_reply c.out.result) c.requires c.out.ensures.step same h.2.content) same (λ closed. closed) h.2,
+      under_uncounted law.lawful law.allowed law.begins law.changes law.limit law.reached law.goes_on (place_of a.space a.shares a.left a.closed) (place_of new a.shares a.left a.closed)
+          (outside (out c.args.tuple c.args.lease) (out_reply c.out.result)) c.requires.changes (c.out.ensures.step, ap (λ (w : World). place_of w a.shares a.left a.closed) rest) tt
+          (out_lawful law.lawful law.allowed law.begins law.changes a.space new c.args.tuple c.args.lease (out_reply c.out.result) c.requires.free c.out.ensures.step same h.2.content) same (λ closed. closed) h.2,
     )

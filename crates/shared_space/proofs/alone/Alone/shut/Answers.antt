@@ -11,6 +11,6 @@ invariant_of-self g c =
     let h = c.self.invariant in (
       h.0,
       h.1,
-      under_uncounted law.lawful law.allowed law.limit law.reached law.goes_on (place_of a.space a.shares a.left a.closed) (place_of a.space a.shares a.left true)
-          shuts tt refl h.2.content refl (λ closed. refl) h.2,
+      under_uncounted law.lawful law.allowed law.begins law.changes law.limit law.reached law.goes_on (place_of a.space a.shares a.left a.closed) (place_of a.space a.shares a.left true)
+          shuts tt refl (record { same = λ f. refl; counted = refl }) h.2.content refl (λ closed. refl) h.2,
     )

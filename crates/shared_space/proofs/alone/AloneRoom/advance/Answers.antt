@@ -15,6 +15,6 @@ invariant_of-self g c =
     let h = c.self.invariant in (
       h.0,
       h.1 ∙ sym keeps.counted,
-      under_kept law.lawful law.allowed law.limit law.reached law.goes_on law.unordered (place_of a.space a.shares a.left a.closed) (place_of new a.shares a.left a.closed)
-          (asks (advance c.args.moment) (moved (done_reply c.advance.result))) tt (c.advance.ensures, refl) keeps (λ closed. closed) h.2,
+      under_kept law.lawful law.allowed law.begins law.changes law.limit law.reached law.goes_on law.unordered (place_of a.space a.shares a.left a.closed) (place_of new a.shares a.left a.closed)
+          (asks (advance c.args.moment) (moved (done_reply c.advance.result))) tt (c.advance.ensures, refl) keeps keeps (λ closed. closed) h.2,
     )

@@ -14,6 +14,6 @@ invariant_of-self g c =
     let h = c.self.invariant in (
       h.0,
       h.1 ∙ sym keeps.counted,
-      under_kept law.lawful law.allowed law.limit law.reached law.goes_on law.unordered (place_of a.space a.shares a.left a.closed) (place_of new a.shares a.left a.closed)
-          (asks (begin c.args.asked) (begun c.begin_in.result)) tt (c.begin_in.ensures, refl) keeps (λ closed. closed) h.2,
+      under_kept law.lawful law.allowed law.begins law.changes law.limit law.reached law.goes_on law.unordered (place_of a.space a.shares a.left a.closed) (place_of new a.shares a.left a.closed)
+          (asks (begin c.args.asked) (begun c.begin_in.result)) c.requires (c.begin_in.ensures, refl) keeps keeps (λ closed. closed) h.2,
     )

@@ -20,7 +20,7 @@ invariant_of-self-2 g c =
     subst (λ (limit : Option ℕ). c.is_reached-2.result ≡ is_reached limit new.commits) h.0 (c.is_reached-2.ensures ∙ ap at c.commits-2.ensures.value) in (
       h.0,
       omega arith,
-      under_committed law.lawful law.allowed law.limit law.reached law.goes_on law.unordered law.keeps (place_of a.space a.shares a.left a.closed)
+      under_committed law.lawful law.allowed law.begins law.changes law.limit law.reached law.goes_on law.unordered law.keeps (place_of a.space a.shares a.left a.closed)
           (place_of new a.shares a.left (a.closed || c.is_reached-2.result)) c.args.txn c.requires
           (below, c.in-Ok.ensures.step, ap (λ (b : Bool). place_of new a.shares a.left (a.closed || b)) now) change h.2,
     )

@@ -15,6 +15,6 @@ invariant_of-self g c =
     let h = c.self.invariant in (
       h.0,
       h.1 ∙ sym keeps.counted,
-      under_kept law.lawful law.allowed law.limit law.reached law.goes_on law.unordered (place_of a.space a.shares a.left a.closed) (place_of new a.shares a.left a.closed)
-          (asks (call c.args.txn.now (rdp_in c.args.template.now)) (answered (find_answer c.rdp_in.result) c.rdp_in.new.txn)) tt (c.rdp_in.ensures.step, refl) keeps (λ closed. closed) h.2,
+      under_kept law.lawful law.allowed law.begins law.changes law.limit law.reached law.goes_on law.unordered (place_of a.space a.shares a.left a.closed) (place_of new a.shares a.left a.closed)
+          (asks (call c.args.txn.now (rdp_in c.args.template.now)) (answered (find_answer c.rdp_in.result) c.rdp_in.new.txn)) tt (c.rdp_in.ensures.step, refl) keeps keeps (λ closed. closed) h.2,
     )
