@@ -8,27 +8,27 @@ mod answering;
 mod command_line;
 mod larger;
 mod leaves;
+mod naming;
 mod refusal;
+mod sources;
 mod verifying;
 
-use answering::{answered, refused, verdict_status};
+use answering::{answered, refused};
 use clap::Error;
 use clap::error::ErrorKind;
 use command_line::{Files, parse};
 use larger::larger_text;
-use leaves::short_leaves;
+use naming::{Remarks, covered, verified};
 use plan_charge::is_restricting;
 use plan_input::{Loaded, is_plan, load_problem};
 use qap_io::{Counted, Status};
-use qap_proof::Cover;
 use qap_text::text_of_instance;
 use refusal::VerifyError;
-use std::fs::{self, File};
+use sources::{Sources, System};
 use std::io::Read;
 use std::process::ExitCode;
 use std::rt::Env;
 use std::{env, io};
-use verifying::{cover_stream, part_stream, verdict_stream};
 
 fn main(rt: HostRuntime) -> ExitCode {
     let words = match arguments(&rt) {
@@ -74,7 +74,7 @@ fn run(rt: &HostRuntime, files: &Files<'_>) -> ExitCode {
     if is_plan(files.instance) {
         return run_on_plan(rt, files);
     }
-    match open(rt, files.instance) {
+    match (System { rt }).open(files.instance) {
         Ok(instance) => run_on(rt, files, instance),
         Err(error) => refuse(rt, error),
     }
@@ -117,78 +117,29 @@ fn run_on_restricted(rt: &HostRuntime, files: &Files<'_>, loaded: &Loaded) -> Ex
     }
 }
 
-/// Verifies what is claimed of the instance whose text this reader has.
+/// Verifies what is claimed of the instance whose text this reader has. `-` stands for a proof that comes from standard input.
 fn run_on<R: Read + Drop>(rt: &HostRuntime, files: &Files<'_>, instance: R) -> ExitCode {
-    if files.parts.is_empty() {
-        return run_alone(rt, files, instance);
+    let (alloc, system) = (rt.alloc(), System { rt });
+    let mut instance = Counted::new(instance);
+    let mut output = Counted::new(rt.stdout());
+    let mut errors = Counted::new(rt.stderr());
+    if !files.parts.is_empty() {
+        return match covered(alloc, &system, files, &mut instance, &mut output, &system) {
+            Ok(code) => ExitCode::from(code),
+            Err(error) => refuse(rt, error),
+        };
     }
-    match covered(rt, files, instance) {
-        Ok(code) => code,
-        Err(error) => refuse(rt, error),
-    }
+    let code = if files.proof == "-" {
+        let mut proof = Counted::new(rt.stdin());
+        answered(alloc, &mut instance, &mut proof, files.wanted, &mut output, &mut errors)
+    } else {
+        verified(alloc, &system, files, &mut instance, &mut output, &mut errors)
+    };
+    ExitCode::from(code)
 }
 
-/// Verifies the proof of the whole, and those of the parts in turn, and prints what they show together; which leaves of the whole show
-/// less than the least cost is printed on standard error. The name of a part that is refused is printed there too.
-fn covered<R: Read + Drop>(
-    rt: &HostRuntime,
-    files: &Files<'_>,
-    instance: R,
-) -> Result<ExitCode, VerifyError> {
-    let proof = open(rt, files.proof)?;
-    let mut cover = cover_stream(
-        rt.alloc(),
-        &mut Counted::new(instance),
-        &mut Counted::new(proof),
-    )?;
-    for name in &files.parts {
-        if let Err(error) = add_part(rt, &mut cover, name) {
-            let _ = rt.eprint(name);
-            let _ = rt.eprint(": ");
-            return Err(error);
-        }
+impl Remarks for System<'_> {
+    fn say(&self, words: &str) {
+        let _ = self.rt.eprint(words);
     }
-    let lines = short_leaves(rt.alloc(), &cover)?;
-    let _ = rt.eprint(&lines);
-    let verdict = verdict_stream(rt.alloc(), &cover, &mut Counted::new(rt.stdout()))?;
-    Ok(ExitCode::from(verdict_status(files.wanted, verdict)))
-}
-
-/// Adds the proof of a part, which is in the file of this name.
-fn add_part(rt: &HostRuntime, cover: &mut Cover, name: &str) -> Result<(), VerifyError> {
-    let file = open(rt, name)?;
-    part_stream(rt.alloc(), cover, &mut Counted::new(file))
-}
-
-/// Verifies the proof, which `-` stands for where it comes from standard input.
-fn run_alone<R: Read + Drop>(rt: &HostRuntime, files: &Files<'_>, instance: R) -> ExitCode {
-    if files.proof == "-" {
-        return run_over(rt, files, instance, rt.stdin());
-    }
-    match open(rt, files.proof) {
-        Ok(proof) => run_over(rt, files, instance, proof),
-        Err(error) => refuse(rt, error),
-    }
-}
-
-/// Verifies the proof that a reader has.
-fn run_over<R: Read + Drop, S: Read + Drop>(
-    rt: &HostRuntime,
-    files: &Files<'_>,
-    instance: R,
-    proof: S,
-) -> ExitCode {
-    ExitCode::from(answered(
-        rt.alloc(),
-        &mut Counted::new(instance),
-        &mut Counted::new(proof),
-        files.wanted,
-        &mut Counted::new(rt.stdout()),
-        &mut Counted::new(rt.stderr()),
-    ))
-}
-
-/// A named file, opened for reading.
-fn open(rt: &HostRuntime, name: &str) -> Result<File, VerifyError> {
-    fs::open(rt, name).map_err(|_| VerifyError::Device)
 }

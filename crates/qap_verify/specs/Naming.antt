@@ -1,0 +1,55 @@
+-- Runs on named files. The possible contents of files are a relation of names and bytes.
+use Rattle.std.specs.Prelude.{◌≡◌, ◌⊎◌, ℕ, ℤ, List, [], ◌∷◌, Option, IfSome}
+use Rattle.qap_io.specs.Counting.{CountedDevice}
+use Rattle.qap_proof.specs.Cover.{CoverValue, IsOpened}
+use Rattle.qap_proof.specs.declared.acceptance.Verdict.{Verdict}
+use Rattle.qap_text.specs.Input.{Input, input_of}
+use Rattle.qap_verify.specs.Answering.{HasRun, HasTold, verdict_status}
+use Rattle.qap_verify.specs.Parts.{HasAdded, HasShown}
+use Rattle.qap_verify.specs.Refusal.{status_of}
+use Rattle.qap_verify.specs.Texts.{ComeTo}
+use Rattle.qap_verify.specs.declared.refusal.VerifyError.TheVariants.{Device}
+
+-- what a reader has, if that is known, is what the file of this name may contain
+abbrev pub IsReaderOf : {F : Type 0} → (List ℕ → List ℕ → Type 0) → (F → Option (List ℕ)) → List ℕ → F → Type 0
+IsReaderOf Holds bytes name reader = IfSome (bytes reader) (Holds name)
+
+-- a run on an instance and the proof in the file of this name
+pub record RunsOnFile {R F W E : Type 0} (Holds : List ℕ → List ℕ → Type 0) (bytes : F → Option (List ℕ)) (name : List ℕ) (first : Input R) (wanted : Option ℤ)
+    (contents : W → Option (List ℕ)) (old new : CountedDevice W) (told : E → Option (List ℕ)) (errors behind : CountedDevice E) (exit : ℕ) : Type 0 where
+  pub before : CountedDevice F
+  pub after : CountedDevice F
+  pub reader : IsReaderOf Holds bytes name before.inner
+  pub run : HasRun (record { first = first; second = input_of bytes before after }) wanted contents old new told errors behind exit
+
+-- there was no such run, since the file could not be opened: nothing was written, and that was reported
+pub record HasNoFile {W E : Type 0} (old new : CountedDevice W) (told : E → Option (List ℕ)) (errors behind : CountedDevice E) (exit : ℕ) : Type 0 where
+  pub nothing : new ≡ old
+  pub reported : HasTold told errors behind Device
+  pub ends : exit ≡ status_of Device
+
+-- the proof of a part in the file of this name has been added to others
+pub record AddsFile {F : Type 0} (Holds : List ℕ → List ℕ → Type 0) (bytes : F → Option (List ℕ)) (name : List ℕ) (old new : CoverValue) : Type 0 where
+  pub before : CountedDevice F
+  pub after : CountedDevice F
+  pub reader : IsReaderOf Holds bytes name before.inner
+  pub added : HasAdded (input_of bytes before after) old new
+
+-- those in the files of these names, one after the other
+abbrev pub AddsEach : {F : Type 0} → (List ℕ → List ℕ → Type 0) → (F → Option (List ℕ)) → List (List ℕ) → CoverValue → CoverValue → Type 0
+AddsEach Holds bytes [] old new = new ≡ old
+AddsEach Holds bytes (name ∷ names) old new = (next : CoverValue) × AddsFile Holds bytes name old next × AddsEach Holds bytes names next new
+
+-- the verdict of the proof of a whole in one file, with those of parts in others beside it, has been written, and this is its status
+pub record Covers {R F W : Type 0} (Holds : List ℕ → List ℕ → Type 0) (bytes : F → Option (List ℕ)) (name : List ℕ) (parts : List (List ℕ)) (first : Input R) (wanted : Option ℤ)
+    (contents : W → Option (List ℕ)) (old new : CountedDevice W) (exit : ℕ) : Type 0 where
+  pub before : CountedDevice F
+  pub after : CountedDevice F
+  pub reader : IsReaderOf Holds bytes name before.inner
+  pub opened : CoverValue
+  pub whole : ComeTo (record { first = first; second = input_of bytes before after }) IsOpened opened
+  pub all : CoverValue
+  pub added : AddsEach Holds bytes parts opened all
+  pub verdict : Verdict
+  pub shown : HasShown all contents old new verdict
+  pub ends : exit ≡ verdict_status wanted verdict
