@@ -164,8 +164,6 @@ impl Ground<'_> {
     {
         let facility = self.duals.facility(usize::from(level.form.rows()[h]));
         let location = self.duals.location(usize::from(level.form.columns()[g]));
-        next.match_below(level, h, g);
-        next.keep_below(level, self.flows, self.distances, facility, location)?;
         self.duals.duals_law();
         self.child(&level.form, h, g, &mut next.form)?;
         path.push(facility as u16, location as u16)?;
@@ -219,6 +217,32 @@ impl Ground<'_> {
         }
         self.finish(level, path, incumbent)?;
         Ok(true)
+    }
+
+    /// The same for the child that puts row `h` of a parent at column `g`. If it is not closed, it takes from the parent what
+    /// its search starts from; most children are closed, and never need it.
+    pub fn closes_below(
+        &self,
+        parent: &Level,
+        level: &mut Level,
+        path: &Path,
+        incumbent: &mut Incumbent,
+        h: usize,
+        g: usize,
+    ) -> Result<bool, AllocError>
+        requires node { IsNode self.now.instance.now self.now.duals.now self.now.step path.now level.old.form }
+        requires incumbent { IsIncumbent self.now.instance.now incumbent.old }
+        ensures closed { IfOk result (λ closes. IsTrue closes → ReachesTrivially self.now.instance.now self.now.duals.now.scale incumbent.new.cost level.old.form) }
+        ensures left { IfOk result (λ closes. closes ≡ false → StaysWithin level.old.form (threshold_of self.now.duals.now.scale self.now.step incumbent.old.cost)) }
+        ensures form { level.new.form ≡ level.old.form }
+        ensures incumbent { IsIncumbent self.now.instance.now incumbent.new }
+        ensures no_worse { incumbent.new.cost ≤ℤ incumbent.old.cost }
+    {
+        if self.closes_at_once(level, path, incumbent)? {
+            return Ok(true);
+        }
+        level.inherit(parent, h, g, self.flows, self.distances, path)?;
+        Ok(false)
     }
 
     /// Whether the value of the node that the path leads to closes it once a line is drawn; or it is a permutation, by which the

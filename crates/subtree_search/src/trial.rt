@@ -57,7 +57,10 @@ pub(crate) fn try_child<S: Stop, W: Record>(
     let (first, rest) = deeper.split_at_mut(1);
     let next = &mut first[0];
     task.ground.descend(split.level, next, path, h, g)?;
-    if task.ground.closes_at_once(next, path, incumbent)? {
+    if task
+        .ground
+        .closes_below(split.level, next, path, incumbent, h, g)?
+    {
         path.pop();
         return Ok(None);
     }
