@@ -12,6 +12,7 @@ ghost use Rattle.subtree_search.specs.Adding.{Extends};
 ghost use Rattle.subtree_search.specs.Best.{IsIncumbent};
 ghost use Rattle.subtree_search.specs.Closed.{IsClosed, Reaches, ReachesTrivially, StaysWithin, threshold_of};
 ghost use Rattle.subtree_search.specs.Drawn.{IsDrawn};
+ghost use Rattle.subtree_search.specs.Evaluated.{ClosesByForm};
 ghost use Rattle.subtree_search.specs.Lines.{IsLineOf, own_of, side_of};
 ghost use Rattle.subtree_search.specs.Opens.{IsOpenAt};
 ghost use Rattle.subtree_search.specs.Premises.{AreSound, IsNode, limits_of_64};
@@ -305,6 +306,7 @@ impl Ground<'_> {
         requires node { IsNode self.now.instance.now self.now.duals.now self.now.step path.now level.old.form }
         requires first { level.old.form.is_lined ≡ false }
         requires incumbent { IsIncumbent self.now.instance.now incumbent.old }
+        ensures closed { IfOk result (λ closes. IsTrue closes → ClosesByForm self.now.instance.now self.now.duals.now.scale incumbent.new.cost level.old.form) }
         ensures recorded { IfOk result (λ closes. IsTrue closes → HasTree self.now.instance.now self.now.duals.now path.now level.old.form incumbent.new.cost (W.holds proof.old) (W.holds proof.new)) }
         ensures extended { OnOk result (Extends (W.holds proof.old) (W.holds proof.new)) }
         ensures drawn { IfOk result (λ closes. closes ≡ false → IsDrawn level.old.form level.new.form level.new.u.items) }
