@@ -1,5 +1,6 @@
 pub mod Cleaning
 pub mod Closings
+pub mod Counting
 pub mod Covers
 pub mod Endings
 pub mod KidLists

@@ -3,6 +3,7 @@ pub mod Best
 pub mod Clean
 pub mod Closed
 pub mod Drawn
+pub mod Evaluated
 pub mod Images
 pub mod Kids
 pub mod Lines
@@ -14,4 +15,5 @@ pub mod Piece
 pub mod Premises
 pub mod Recorded
 pub mod Rows
+pub mod Searches
 pub mod Trials

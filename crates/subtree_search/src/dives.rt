@@ -3,6 +3,7 @@
 ghost use Rattle.std.specs.Prelude.{◌≡◌, ◌<◌, ◌≤◌, ◌≤ℤ◌, ℕ, false, IfOk, OnOk, length};
 ghost use Rattle.std.specs.Option.{IfSome};
 ghost use Rattle.pair_duals.specs.Reduced.{count_of};
+ghost use Rattle.pair_duals.specs.Seats.{child_at};
 ghost use Rattle.subtree_search.specs.Best.{IsIncumbent};
 ghost use Rattle.subtree_search.specs.Lines.{IsLineOf};
 ghost use Rattle.subtree_search.specs.Premises.{AreSymmetries, IsNode};
@@ -125,6 +126,27 @@ impl Ground<'_> {
         None
     }
 
+    /// Goes to the child that puts row `h` at column `g`, with what its search starts from.
+    fn follow(
+        &self,
+        level: &Level,
+        next: &mut Level,
+        path: &mut Path,
+        h: usize,
+        g: usize,
+    ) -> Result<(), AllocError>
+        requires node { IsNode self.now.instance.now self.now.duals.now self.now.step path.old level.now.form }
+        requires row { h < count_of level.now.form }
+        requires column { g < count_of level.now.form }
+        ensures path { OnOk result (path.new ≡ child_at path.old h g) }
+        ensures node { OnOk result (IsNode self.now.instance.now self.now.duals.now self.now.step path.new next.new.form) }
+        ensures first { OnOk result (next.new.form.is_lined ≡ false) }
+        ensures fewer { OnOk result (count_of next.new.form < count_of level.now.form) }
+    {
+        self.descend(level, next, path, h, g)?;
+        next.inherit(level, h, g, self.flows, self.distances, path)
+    }
+
     /// The nodes that a random dive below a line represents.
     #[cycle(diving)]
     fn dive(
@@ -151,7 +173,7 @@ impl Ground<'_> {
         let (h, g) = (line.row(draw.k), line.column(draw.k));
         let (first, rest) = deeper.split_at_mut(1);
         let next = &mut first[0];
-        self.descend(level, next, path, h, g)?;
+        self.follow(level, next, path, h, g)?;
         let below = self.dive_below(next, rest, path, incumbent, random)?;
         path.pop();
         Ok(draw.count + draw.weight * below)

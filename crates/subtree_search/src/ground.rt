@@ -12,6 +12,7 @@ ghost use Rattle.subtree_search.specs.Adding.{Extends};
 ghost use Rattle.subtree_search.specs.Best.{IsIncumbent};
 ghost use Rattle.subtree_search.specs.Closed.{IsClosed, Reaches, ReachesTrivially, StaysWithin, threshold_of};
 ghost use Rattle.subtree_search.specs.Drawn.{IsDrawn};
+ghost use Rattle.subtree_search.specs.Evaluated.{ClosesByForm};
 ghost use Rattle.subtree_search.specs.Lines.{IsLineOf, own_of, side_of};
 ghost use Rattle.subtree_search.specs.Opens.{IsOpenAt};
 ghost use Rattle.subtree_search.specs.Premises.{AreSound, IsNode, limits_of_64};
@@ -164,8 +165,6 @@ impl Ground<'_> {
     {
         let facility = self.duals.facility(usize::from(level.form.rows()[h]));
         let location = self.duals.location(usize::from(level.form.columns()[g]));
-        next.match_below(level, h, g);
-        next.keep_below(level, self.flows, self.distances, facility, location)?;
         self.duals.duals_law();
         self.child(&level.form, h, g, &mut next.form)?;
         path.push(facility as u16, location as u16)?;
@@ -219,6 +218,32 @@ impl Ground<'_> {
         }
         self.finish(level, path, incumbent)?;
         Ok(true)
+    }
+
+    /// The same for the child that puts row `h` of a parent at column `g`. If it is not closed, it takes from the parent what
+    /// its search starts from; most children are closed, and never need it.
+    pub fn closes_below(
+        &self,
+        parent: &Level,
+        level: &mut Level,
+        path: &Path,
+        incumbent: &mut Incumbent,
+        h: usize,
+        g: usize,
+    ) -> Result<bool, AllocError>
+        requires node { IsNode self.now.instance.now self.now.duals.now self.now.step path.now level.old.form }
+        requires incumbent { IsIncumbent self.now.instance.now incumbent.old }
+        ensures closed { IfOk result (λ closes. IsTrue closes → ReachesTrivially self.now.instance.now self.now.duals.now.scale incumbent.new.cost level.old.form) }
+        ensures left { IfOk result (λ closes. closes ≡ false → StaysWithin level.old.form (threshold_of self.now.duals.now.scale self.now.step incumbent.old.cost)) }
+        ensures form { level.new.form ≡ level.old.form }
+        ensures incumbent { IsIncumbent self.now.instance.now incumbent.new }
+        ensures no_worse { incumbent.new.cost ≤ℤ incumbent.old.cost }
+    {
+        if self.closes_at_once(level, path, incumbent)? {
+            return Ok(true);
+        }
+        level.inherit(parent, h, g, self.flows, self.distances, path)?;
+        Ok(false)
     }
 
     /// Whether the value of the node that the path leads to closes it once a line is drawn; or it is a permutation, by which the
@@ -281,6 +306,7 @@ impl Ground<'_> {
         requires node { IsNode self.now.instance.now self.now.duals.now self.now.step path.now level.old.form }
         requires first { level.old.form.is_lined ≡ false }
         requires incumbent { IsIncumbent self.now.instance.now incumbent.old }
+        ensures closed { IfOk result (λ closes. IsTrue closes → ClosesByForm self.now.instance.now self.now.duals.now.scale incumbent.new.cost level.old.form) }
         ensures recorded { IfOk result (λ closes. IsTrue closes → HasTree self.now.instance.now self.now.duals.now path.now level.old.form incumbent.new.cost (W.holds proof.old) (W.holds proof.new)) }
         ensures extended { OnOk result (Extends (W.holds proof.old) (W.holds proof.new)) }
         ensures drawn { IfOk result (λ closes. closes ≡ false → IsDrawn level.old.form level.new.form level.new.u.items) }

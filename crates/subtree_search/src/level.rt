@@ -6,6 +6,7 @@ ghost use Rattle.pair_duals.specs.Reduced.{IsLine, count_of};
 ghost use Rattle.subtree_search.specs.Closed.{HasLeast};
 ghost use Rattle.subtree_search.specs.Premises.{limits_of_64};
 
+use crate::path::Path;
 use assign_dual::{Assigner, Matching};
 use pair_duals::Reduced;
 use qap_cost::{Partial, Perm};
@@ -56,31 +57,28 @@ impl Level {
         keep(&mut self.kept_distances, distances, node.places())
     }
 
-    /// Takes which rows and columns belong together from the parent that puts row `h` at column `g`.
-    pub fn match_below(&mut self, parent: &Level, h: usize, g: usize)
+    /// Takes from the parent that puts row `h` at column `g` which rows and columns belong together, and keeps those of
+    /// its permutations that leave alone what is placed last.
+    pub fn inherit(
+        &mut self,
+        parent: &Level,
+        h: usize,
+        g: usize,
+        flows: &[Perm],
+        distances: &[Perm],
+        path: &Path,
+    ) -> Result<(), AllocError>
         ensures { self.new.form ≡ self.old.form }
     {
         let m = parent.form.free();
         self.matching.copy_without(&parent.matching, m, h, g);
-    }
-
-    /// Keeps those permutations of the parent's that leave alone this facility or this location.
-    pub fn keep_below(
-        &mut self,
-        parent: &Level,
-        flows: &[Perm],
-        distances: &[Perm],
-        facility: usize,
-        location: usize,
-    ) -> Result<(), AllocError>
-        ensures { self.new.form ≡ self.old.form }
-    {
-        keep_some(&mut self.kept_flows, &parent.kept_flows, flows, facility)?;
+        let (facilities, places) = (path.taken(Table::Flows), path.taken(Table::Distances));
+        keep_some(&mut self.kept_flows, &parent.kept_flows, flows, facilities)?;
         keep_some(
             &mut self.kept_distances,
             &parent.kept_distances,
             distances,
-            location,
+            places,
         )
     }
 
@@ -181,18 +179,20 @@ fn leaves_alone(locations: &[u16], taken: &[u16]) -> bool {
     true
 }
 
-/// Makes the list the numbers among the parent's of the permutations that leave this one alone.
+/// Makes the list the numbers among the parent's of the permutations that leave alone the last of these.
 fn keep_some(
     list: &mut Vec<u16>,
     parent: &[u16],
     permutations: &[Perm],
-    number: usize,
+    taken: &[u16],
 ) -> Result<(), AllocError> {
     list.clear();
+    let Some(last) = taken.last() else {
+        return Ok(());
+    };
     for index in parent {
         if let Some(permutation) = permutations.get(usize::from(*index))
-            && let Some(location) = permutation.locations().get(number)
-            && usize::from(*location) == number
+            && permutation.locations().get(usize::from(*last)) == Some(last)
         {
             list.push(*index)?;
         }

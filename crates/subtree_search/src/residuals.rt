@@ -32,7 +32,7 @@ pub(crate) fn keep<'a>(
     KeptResiduals::fill(memory, instance, duals).ok()
 }
 
-/// Whether a table for `m` free facilities pays in a search of so many nodes: it takes as long to fill as some `m^2` children, and
+/// Whether a table for `m` free facilities pays in a search of that many nodes: it takes as long to fill as some `m^2` children, and
 /// saves half the time of each.
 fn pays(m: usize, limit: u64) -> bool {
     m <= MOST && limit / 4 >= (m * m) as u64

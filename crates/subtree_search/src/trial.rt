@@ -56,8 +56,9 @@ pub(crate) fn try_child<S: Stop, W: Record>(
     *nodes = nodes.saturating_add(1);
     let (first, rest) = deeper.split_at_mut(1);
     let next = &mut first[0];
-    task.ground.descend(split.level, next, path, h, g)?;
-    if task.ground.closes_at_once(next, path, incumbent)? {
+    let ground = task.ground;
+    ground.descend(split.level, next, path, h, g)?;
+    if ground.closes_below(split.level, next, path, incumbent, h, g)? {
         path.pop();
         return Ok(None);
     }
@@ -67,7 +68,7 @@ pub(crate) fn try_child<S: Stop, W: Record>(
     if is_closed {
         return Ok(None);
     }
-    Ok(Some(task.ground.open_child(split.level, next, path, h, g)))
+    Ok(Some(ground.open_child(split.level, next, path, h, g)))
 }
 
 /// Whether the node that the path leads to becomes closed within the limit of its trial, and is recorded. Where it doesn't, the record

@@ -17,15 +17,15 @@ use Rattle.subtree_search.proofs.trial.try_child.Goals as goal
 
 pub try_node-requires-clause-node : goal.try_node-requires-clause-node
 try_node-requires-clause-node g c =
-    subst (λ (S : Form). IsNode c.args.task.now.ground.now.instance.now c.args.task.now.ground.now.duals.now c.args.task.now.ground.now.step c.descend.new.path S) (sym c.closes_at_once.ensures.form) c.in_ok-descend.ensures.node
+    subst (λ (S : Form). IsNode c.args.task.now.ground.now.instance.now c.args.task.now.ground.now.duals.now c.args.task.now.ground.now.step c.descend.new.path S) (sym c.closes_below.ensures.form) c.in_ok-descend.ensures.node
 
 pub try_node-requires-clause-first : goal.try_node-requires-clause-first
-try_node-requires-clause-first g c = ap (λ (S : Form). S.is_lined) c.closes_at_once.ensures.form ∙ c.in_ok-descend.ensures.first
+try_node-requires-clause-first g c = ap (λ (S : Form). S.is_lined) c.closes_below.ensures.form ∙ c.in_ok-descend.ensures.first
 
 pub try_node-requires-clause-room : goal.try_node-requires-clause-room
 try_node-requires-clause-room g c =
     let rest = c.split_at_mut-first.ensures.back_len in
-    let count = ap count_of c.closes_at_once.ensures.form in
+    let count = ap count_of c.closes_below.ensures.form in
     omega (arith, c.in_ok-descend.ensures.fewer, c.requires.room, rest, count)
 
 -- ---- closed at once
@@ -35,9 +35,9 @@ returns-then-branch-clause-child g c =
     let I = c.args.task.now.ground.now.instance.now in
     let D = c.args.task.now.ground.now.duals.now in
     let s = c.args.task.now.ground.now.step in
-    let cost = c.closes_at_once.new.incumbent.cost in
+    let cost = c.closes_below.new.incumbent.cost in
     let at = at_child c.args.path.now c.descend.new.path c.args.split.now.line c.args.k c.row-h.result c.column-g.result c.in_ok-descend.ensures.path c.row-h.ensures c.column-g.ensures in
-    subst (λ (x : Placement). IsClosed I x cost) at (IsClosed-trivially I D s c.descend.new.path c.descend.new.next.form cost c.in_ok-descend.ensures.node (c.in_ok-closes_at_once.ensures.closed c.if-branch.true))
+    subst (λ (x : Placement). IsClosed I x cost) at (IsClosed-trivially I D s c.descend.new.path c.descend.new.next.form cost c.in_ok-descend.ensures.node (c.in_ok-closes_below.ensures.closed c.if-branch.true))
 
 pub returns-then-branch-clause-recorded : goal.returns-then-branch-clause-recorded
 returns-then-branch-clause-recorded g c =
@@ -46,9 +46,9 @@ returns-then-branch-clause-recorded g c =
     let line = c.args.split.now.line in
     let row = row_within (count_of R) c.args.k line c.requires.line c.requires.k_in in
     let column = column_within (count_of R) c.args.k line c.requires.line c.requires.k_in in
-    HasKid-trivial c.args.task.now.ground.now.instance.now c.args.task.now.ground.now.duals.now c.args.task.now.ground.now.step c.args.path.now R c.descend.new.next.form line c.args.k c.closes_at_once.new.incumbent.cost
+    HasKid-trivial c.args.task.now.ground.now.instance.now c.args.task.now.ground.now.duals.now c.args.task.now.ground.now.step c.args.path.now R c.descend.new.next.form line c.args.k c.closes_below.new.incumbent.cost
     (g.W.Record.ends c.args.split.now.marks) (g.W.Record.holds c.args.proof.now) c.row-h.result c.column-g.result n.sound.even n (omega (arith, row, c.row-h.ensures)) (omega (arith, column, c.column-g.ensures)) c.row-h.ensures c.column-g.ensures
-    c.in_ok-descend.ensures.child (c.in_ok-closes_at_once.ensures.closed c.if-branch.true)
+    c.in_ok-descend.ensures.child (c.in_ok-closes_below.ensures.closed c.if-branch.true)
 
 -- ---- closed by its trial
 
@@ -58,11 +58,11 @@ returns-then-is_closed-clause-child g c =
     let D = c.args.task.now.ground.now.duals.now in
     let s = c.args.task.now.ground.now.step in
     let n = c.requires.node in
-    let S = c.closes_at_once.new.level.form in
+    let S = c.closes_below.new.level.form in
     let cost = c.try_node.new.incumbent.cost in
     let old = g.W.Record.holds c.mark.new.self in
     let new = g.W.Record.holds c.try_node.new.proof in
-    let here = subst (λ (S : Form). IsNode I D s c.descend.new.path S) (sym c.closes_at_once.ensures.form) c.in_ok-descend.ensures.node in
+    let here = subst (λ (S : Form). IsNode I D s c.descend.new.path S) (sym c.closes_below.ensures.form) c.in_ok-descend.ensures.node in
     let at = at_child c.args.path.now c.descend.new.path c.args.split.now.line c.args.k c.row-h.result c.column-g.result c.in_ok-descend.ensures.path c.row-h.ensures c.column-g.ensures in
     subst (λ (x : Placement). IsClosed I x cost) at (IsClosed-tree I D s c.descend.new.path S cost old new n.sound.even here (c.in_ok-is_closed.ensures.recorded c.if-is_closed.true))
 
@@ -75,8 +75,8 @@ returns-then-is_closed-clause-recorded g c =
     let line = c.args.split.now.line in
     let row = row_within (count_of R) c.args.k line c.requires.line c.requires.k_in in
     let column = column_within (count_of R) c.args.k line c.requires.line c.requires.k_in in
-    let child = subst (IsChild I D R c.row-h.result c.column-g.result) (sym c.closes_at_once.ensures.form) c.in_ok-descend.ensures.child in
-    HasKid-tree I D c.args.task.now.ground.now.step c.args.path.now c.descend.new.path R c.closes_at_once.new.level.form line c.args.k c.try_node.new.incumbent.cost (g.W.Record.ends c.args.split.now.marks) (g.W.Record.holds c.args.proof.now) (g.W.Record.holds c.mark.new.self)
+    let child = subst (IsChild I D R c.row-h.result c.column-g.result) (sym c.closes_below.ensures.form) c.in_ok-descend.ensures.child in
+    HasKid-tree I D c.args.task.now.ground.now.step c.args.path.now c.descend.new.path R c.closes_below.new.level.form line c.args.k c.try_node.new.incumbent.cost (g.W.Record.ends c.args.split.now.marks) (g.W.Record.holds c.args.proof.now) (g.W.Record.holds c.mark.new.self)
     (g.W.Record.holds c.try_node.new.proof) c.row-h.result c.column-g.result n.sound.even n (omega (arith, row, c.row-h.ensures)) (omega (arith, column, c.column-g.ensures)) c.row-h.ensures c.column-g.ensures c.in_ok-descend.ensures.path child c.mark.ensures
     (c.in_ok-is_closed.ensures.recorded c.if-is_closed.true)
 
@@ -101,14 +101,14 @@ open_child-requires-clause-next g c =
     let l = c.column-g.result in
     let drawn = c.in_ok-is_closed.ensures.drawn c.if-is_closed.false in
     let back = back_at y c.descend.new.path c.try_node.new.path c.pop-2.new.self h l c.in_ok-is_closed.ensures.path c.in_ok-descend.ensures.path c.pop-2.ensures in
-    let at = subst (λ (S : Form). IsNode I D s c.descend.new.path S) (sym c.closes_at_once.ensures.form) c.in_ok-descend.ensures.node in
-    let here = subst (λ (z : Placement). IsNode I D s z c.closes_at_once.new.level.form) c.in_ok-descend.ensures.path at in
-    subst (λ (z : Placement). IsNode I D s (child_at z h l) c.try_node.new.level.form) (sym back) (IsNode-drawn I D s (child_at y h l) c.closes_at_once.new.level.form c.try_node.new.level.form _ _ here drawn.line)
+    let at = subst (λ (S : Form). IsNode I D s c.descend.new.path S) (sym c.closes_below.ensures.form) c.in_ok-descend.ensures.node in
+    let here = subst (λ (z : Placement). IsNode I D s z c.closes_below.new.level.form) c.in_ok-descend.ensures.path at in
+    subst (λ (z : Placement). IsNode I D s (child_at z h l) c.try_node.new.level.form) (sym back) (IsNode-drawn I D s (child_at y h l) c.closes_below.new.level.form c.try_node.new.level.form _ _ here drawn.line)
 
 pub open_child-requires-clause-least : goal.open_child-requires-clause-least
 open_child-requires-clause-least g c =
     let drawn = c.in_ok-is_closed.ensures.drawn c.if-is_closed.false in
-    IsNonNegative-line c.closes_at_once.new.level.form c.try_node.new.level.form _ _ drawn.line
+    IsNonNegative-line c.closes_below.new.level.form c.try_node.new.level.form _ _ drawn.line
 
 pub returns-clause-child : goal.returns-clause-child
 returns-clause-child g c =
@@ -132,5 +132,5 @@ returns-clause-path g c = back_at c.args.path.now c.descend.new.path c.try_node.
 pub returns-clause-left : goal.returns-clause-left
 returns-clause-left g c =
     StaysOpen-child c.args.task.now.ground.now.instance.now c.args.task.now.ground.now.duals.now c.args.task.now.ground.now.step c.args.split.now.level.now.form c.descend.new.next.form c.args.split.now.line c.args.k c.row-h.result c.column-g.result
-    c.args.incumbent.now.cost c.closes_at_once.new.incumbent.cost c.try_node.new.level.form.value c.open_child.result c.row-h.ensures c.column-g.ensures c.in_ok-descend.ensures.child (c.in_ok-closes_at_once.ensures.left c.if-branch.false)
-    c.open_child.ensures.value (c.in_ok-is_closed.ensures.within c.if-is_closed.false) c.closes_at_once.ensures.no_worse
+    c.args.incumbent.now.cost c.closes_below.new.incumbent.cost c.try_node.new.level.form.value c.open_child.result c.row-h.ensures c.column-g.ensures c.in_ok-descend.ensures.child (c.in_ok-closes_below.ensures.left c.if-branch.false)
+    c.open_child.ensures.value (c.in_ok-is_closed.ensures.within c.if-is_closed.false) c.closes_below.ensures.no_worse

@@ -6,13 +6,13 @@ use Rattle.subtree_search.proofs.ground.Ground.+diving.Goals as goal
 
 pub dive-dive_below-requires : goal.dive-dive_below-requires
 dive-dive_below-requires t c =
-    let ensures = c.in_ok-descend.ensures in
+    let ensures = c.in_ok-follow.ensures in
     let rest = c.split_at_mut-first.ensures.back_len in
     (omega (arith, c.decreases, rest), (ensures.node, (ensures.first, (omega (arith, ensures.fewer, c.requires.room, rest), (c.requires.symmetries, c.requires.incumbent)))))
 
 pub dive-returns-clause-path : goal.dive-returns-clause-path
 dive-returns-clause-path t c =
-    back_at c.args.path.now c.descend.new.path c.dive_below.new.path c.pop.new.self c.row-h.result c.column-g.result c.in_ok-below.ensures.path c.in_ok-descend.ensures.path c.pop.ensures
+    back_at c.args.path.now c.follow.new.path c.dive_below.new.path c.pop.new.self c.row-h.result c.column-g.result c.in_ok-below.ensures.path c.in_ok-follow.ensures.path c.pop.ensures
 
 pub dive_below-dive-requires : goal.dive_below-dive-requires
 dive_below-dive-requires t c =

@@ -1,4 +1,4 @@
-use Rattle.std.proofs.Common.{List, subst}
+use Rattle.std.proofs.Common.{List, inr, subst}
 use Rattle.std.specs.Prelude.{ℤ, codes}
 use Rattle.qap_lines.specs.LineText.{line_text}
 use Rattle.subtree_search.specs.Adding.{Adds}
@@ -16,6 +16,10 @@ returns-then-branch-clause-recorded g c = λ _.
     let added = subst (λ (us : List ℤ). Adds old new (line_text (codes "x") us)) c.u.ensures c.in_ok-leaf.ensures in
     HasTree-leaf c.args.self.now.instance.now c.args.self.now.duals.now c.args.self.now.step c.args.path.now c.args.level.now.form c.draw_line.new.self.form c.draw_line.new.self.u.items c.draw_line.new.self.v.items
     c.closes_by_value.new.incumbent.cost old new c.requires.node drawn.count drawn.range drawn.line (c.in_ok-closes_by_value.ensures.closed c.if-branch.true) added
+
+pub returns-then-branch-clause-closed : goal.returns-then-branch-clause-closed
+returns-then-branch-clause-closed g c = λ _.
+    inr (record { lined = c.draw_line.new.self.form; u = c.draw_line.new.self.u.items; v = c.draw_line.new.self.v.items; line = c.in_ok-draw_line.ensures.line; reaches = c.in_ok-closes_by_value.ensures.closed c.if-branch.true })
 
 pub returns-then-branch-clause-extended : goal.returns-then-branch-clause-extended
 returns-then-branch-clause-extended g c = Extends-adds (g.W.Record.holds c.args.proof.now) (g.W.Record.holds c.leaf.new.self) _ c.in_ok-leaf.ensures
