@@ -56,5 +56,4 @@ def cases():
         yield f"case: {command}: no such file\nrun: qapplan {command.replace('FILE', 'none')}"
         yield f"stderr: error: none: {UNOPENED}\nstatus: 1"
         yield f"case: {command}: a folder\nrun: mkdir x; qapplan {command.replace('FILE', 'x')}"
-        failed = UNOPENED if command in COMMANDS else "the reader or the writer failed"
-        yield f"stderr: error: x: {failed}\nstatus: 1"
+        yield f"stderr: error: x: {UNOPENED}\nstatus: 1"

@@ -9,8 +9,8 @@ use Rattle.qap_cost.specs.Placement.{Completes, Placement, root_of}
 use Rattle.plan_table.specs.Decimal.{max_number}
 use Rattle.plan_file.specs.declared.tables.NamedProblem.{NamedProblem}
 use Rattle.plan_answer.specs.Answer.{cost_scale}
-use Rattle.plan_check.specs.Names.{HasNamesOf, HasNoNames}
-use Rattle.plan_check.specs.Stated.{ListsNumbers, StatesNumber, StatesText, status_of}
+use Rattle.plan_check.specs.Names.{HasNamesOf, HasNoNames, department_names, place_names}
+use Rattle.plan_check.specs.Stated.{ListsNumbers, ListsTexts, StatesNumber, StatesText, StatesWhole, status_of}
 
 -- the text is the JSON of a value
 pub record IsJsonOf (text : List ℕ) (d : Data) : Type 0 where
@@ -74,3 +74,12 @@ pub record StatesFound (text p : List ℕ) (c g : ℤ) : Type 0 where
   pub json : IsJsonOf text value
   pub states : StatesAnswer 0 value p c g
   pub unnamed : HasNoNames value
+
+-- the text is the JSON of the names of a plan's departments and places, in order, and of its scales
+pub record StatesNames (P : NamedProblem) (text : List ℕ) : Type 0 where
+  pub value : Data
+  pub json : IsJsonOf text value
+  pub departments : ListsTexts value (codes "departments") (department_names P)
+  pub places : ListsTexts value (codes "places") (place_names P)
+  pub flow_scale : StatesWhole value (codes "flow_scale") P.flow_scale
+  pub distance_scale : StatesWhole value (codes "distance_scale") P.distance_scale

@@ -25,6 +25,10 @@ ListsTexts d key texts = Lists d key (map string texts)
 abbrev pub StatesText : Data → List ℕ → List ℕ → Type 0
 StatesText d key text = get key d ≡ Some (string text)
 
+-- a key has a whole number
+abbrev pub StatesWhole : Data → List ℕ → ℕ → Type 0
+StatesWhole d key n = get key d ≡ Some (whole n)
+
 -- a key has a text that spells z / 10^scale
 pub record StatesNumber (d : Data) (key : List ℕ) (z : ℤ) (scale : ℕ) : Type 0 where
   pub word : List ℕ

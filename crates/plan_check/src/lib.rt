@@ -22,4 +22,4 @@ pub use law::{refusal_law, stated_law};
 pub use layout::layout_of;
 pub use proving::proved_bound;
 pub use telling::checked_line;
-pub use written::{states_found, states_planned};
+pub use written::{states_found, states_names, states_planned};

@@ -1,12 +1,15 @@
 //! Whether a text that was written as the JSON of an answer reads back as that answer.
 
-ghost use Rattle.std.specs.Prelude.{◌<◌, ◌^◌, IfOk, IsTrue};
+ghost use Rattle.std.specs.Prelude.{◌<◌, ◌^◌, ◌≡◌, ◌≢◌, IfOk, IsTrue, None};
+ghost use Rattle.serde_json.specs.Find.{get};
 ghost use Rattle.serde_json.specs.View.{view};
-ghost use Rattle.plan_check.specs.Answer.{IsBoundStated, ListsLocations, StatesAnswer, StatesFound, StatesPlanned};
+ghost use Rattle.plan_check.specs.Answer.{IsBoundStated, ListsLocations, StatesAnswer, StatesFound, StatesNames, StatesPlanned};
 ghost use Rattle.plan_file.specs.Tables.{HasSizes};
+ghost use Rattle.plan_check.specs.Stated.{StatesWhole};
 ghost use Rattle.qap_cost.specs.Placement.{Completes};
 
 use crate::error::AnswerError;
+use crate::lookup::{value_at, whole_in};
 use crate::names::{check_arrangement, check_names, check_unnamed};
 use crate::number::{stated_bound, stated_cost};
 use crate::permutation::permutation_of;
@@ -55,6 +58,39 @@ pub fn states_found(
     check_unnamed(&value)?;
     let states = states_answer(alloc, &value, permutation, cost, bound, 0)?;
     Ok(states)
+}
+
+/// Whether a text is the JSON of the names of a plan's departments and places, and of its scales.
+pub fn states_names(alloc: Global, problem: &NamedProblem, text: &[u8]) -> Result<bool, AnswerError>
+    ensures { IfOk result (λ states. IsTrue states → StatesNames problem.now text.now) }
+{
+    let value = json_of(alloc, text)?;
+    check_names(problem, &value)?;
+    let states = has_key(&value, "departments")
+        && has_key(&value, "places")
+        && states_whole(&value, "flow_scale", problem.flow_scale)
+        && states_whole(&value, "distance_scale", problem.distance_scale);
+    Ok(states)
+}
+
+/// Whether a value has a key.
+fn has_key(value: &Value, key: &'static str) -> bool
+    ensures { IsTrue result → get key.now (view value.now) ≢ None }
+{
+    value_at(value, key).is_some()
+}
+
+/// Whether a value has this whole number at a key.
+fn states_whole(value: &Value, key: &'static str, number: usize) -> bool
+    ensures { IsTrue result → StatesWhole (view value.now) key.now number }
+{
+    let Some(found) = value_at(value, key) else {
+        return false;
+    };
+    match whole_in(found) {
+        Some(stated) => stated == number as u64,
+        None => false,
+    }
 }
 
 /// Whether a value lists this permutation, and states this cost and this bound.

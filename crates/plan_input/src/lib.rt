@@ -7,4 +7,4 @@ mod texts;
 
 pub use loading::{LoadError, Loaded, is_plan, load_from, load_problem};
 pub use notes::notes_of;
-pub use texts::Texts;
+pub use texts::{Disk, Texts};

@@ -20,8 +20,8 @@ pub trait Texts {
 
 /// The files of a system. No contract says what they contain, so that any bytes may stand under a name.
 #[derive(Drop)]
-pub(crate) struct Disk<'a, R> {
-    pub(crate) files: &'a R,
+pub struct Disk<'a, R> {
+    pub files: &'a R,
 }
 
 impl<R: Files> Texts for Disk<'_, R> {

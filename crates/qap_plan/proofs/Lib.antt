@@ -1,3 +1,5 @@
+mod Endings
 mod Kept
 mod Restricted
 mod SplitUps
+mod Starts

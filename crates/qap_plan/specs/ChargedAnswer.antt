@@ -1,5 +1,5 @@
 -- The answer to a problem with names whose places cost something or are forbidden.
-use Rattle.std.specs.Prelude.{◌≡◌, ℕ, List, Option, Some, None, nat_lt}
+use Rattle.std.specs.Prelude.{◌≡◌, ℕ, IfSome, List, Option, Some, None, nat_lt}
 use Rattle.qap_cost.specs.Instance.{Problem}
 use Rattle.qap_cost.specs.Objective.{cost_of}
 use Rattle.plan_charge.specs.Charges.{charged}
@@ -21,9 +21,10 @@ abbrev pub ArePartsIfCharged : Problem → Charges → List ℕ → Option CostP
 ArePartsIfCharged I c p None = c.count ≡ 0
 ArePartsIfCharged I c p (Some parts) = AreParts I c p parts
 
--- what a search has found, the parts of its cost, and the text with both
-pub record IsChargedAnswer (P : NamedProblem) (c : Charges) (f : Forbidden) (a : ChargedAnswer) : Type 0 where
+-- what a search has found from the requested start, if there is one, the parts of its cost, and the text with both
+pub record IsChargedAnswer (P : NamedProblem) (c : Charges) (f : Forbidden) (requested : Option (List ℕ)) (a : ChargedAnswer) : Type 0 where
   pub start : List ℕ
+  pub begins : IfSome requested (λ p. start ≡ p)
   pub charged : IsCharged P.instance P.fixed c f start a.planned.permutation a.planned.cost a.planned.bound
   pub parts : ArePartsIfCharged P.instance c a.planned.permutation a.parts
   pub told : IsChargedText P a.planned.permutation a.planned.cost a.planned.bound a.parts (nat_lt 0 f.count) a.text.items

@@ -16,3 +16,8 @@ pub record ShowsStated (P : NamedProblem) (p : List ℕ) (c g : ℤ) (title text
   pub words : List ℕ
   pub stated : IsStatedLine P c g words
   pub drawn : IsPicture P p title words text
+
+-- the same with any title
+pub record Pictures (P : NamedProblem) (p : List ℕ) (c g : ℤ) (text : List ℕ) : Type 0 where
+  pub title : List ℕ
+  pub shows : ShowsStated P p c g title text

@@ -1,5 +1,6 @@
 -- A start at the beginning of its own input.
-use Rattle.std.specs.Prelude.{◌≡◌, ◌≢◌, ℕ, ◌⊎◌, List, ℤ, Option, Some, None}
+use Rattle.std.specs.Borrow.{Bor}
+use Rattle.std.specs.Prelude.{◌≡◌, ◌≢◌, ⊤, ℕ, ◌⊎◌, List, ℤ, Option, Some, None}
 use Rattle.qap_cost.specs.Instance.{Problem}
 use Rattle.qap_cost.specs.Objective.{cost_of}
 use Rattle.qap_io.specs.Counting.{CountedDevice}
@@ -74,3 +75,27 @@ BeginsNot bytes I _ _ e = ⊥
 -- why there is no start although one is requested
 abbrev pub HasNoStart : {Q : Type 0} → Starting Q → Problem → PlannerError → Type 0
 HasNoStart s I e = BeginsNot s.bytes I s.before s.after e
+
+-- a reader of some bytes, if they are given
+abbrev pub IsReaderOf : Option (List ℕ) → Option (CountedDevice (Bor (List ℕ))) → Type 0
+IsReaderOf None None = ⊤
+IsReaderOf (Some bytes) (Some reader) = reader.inner.now ≡ bytes
+IsReaderOf _ _ = ⊥
+
+-- some bytes begin with a solution that states its own cost
+pub record AreSolution (bytes : List ℕ) (I : Problem) (p : List ℕ) : Type 0 where
+  pub input : Input (Bor (List ℕ))
+  pub read : HasSolution input I.size (cost_of I p) p
+  pub of_bytes : input.before.inner.now ≡ bytes
+
+-- a file begins with such a solution
+pub record IsSolutionIn (Holds : List ℕ → List ℕ → Type 0) (file : List ℕ) (I : Problem) (p : List ℕ) : Type 0 where
+  pub bytes : List ℕ
+  pub held : Holds file bytes
+  pub solution : AreSolution bytes I p
+
+-- the start is the solution in the bytes that are given, if they are
+abbrev pub IsStartOf : Option (List ℕ) → Problem → Option (List ℕ) → Type 0
+IsStartOf None I start = start ≡ None
+IsStartOf (Some bytes) I (Some p) = AreSolution bytes I p
+IsStartOf (Some bytes) I None = ⊥

@@ -1,7 +1,6 @@
 //! The subcommands: their options and their runs.
 
 pub(crate) mod answering;
-pub(crate) mod arranging;
 pub(crate) mod charged_answer;
 pub(crate) mod charged_outcome;
 pub(crate) mod check;

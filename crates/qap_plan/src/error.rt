@@ -1,6 +1,7 @@
 //! Why there is no answer.
 
 ghost use Rattle.std.specs.Prelude.{◌≡◌, ◌⊎◌};
+ghost use Rattle.qap_plan.specs.Outputs.{IsFailure};
 ghost use Rattle.qap_plan.specs.declared.error.PlannerError.TheVariants.{Json as UnreadJson, OutOfMemory as WantOfMemory, Device as FailedDevice};
 
 use plan_check::AnswerError;
@@ -53,10 +54,20 @@ pub enum PlannerError {
 
 impl PlannerError {
     /// How a run ends that meets this.
-    pub fn status(self) -> Status {
+    pub fn status(self) -> Status
+        ensures { IsFailure result }
+    {
         match self {
             PlannerError::OutOfMemory => Status::OutOfMemory,
             _ => Status::Refused,
+        }
+    }
+
+    /// The error of a run that reads from memory and writes to memory: only want of memory makes such a device fail.
+    pub fn in_memory(self) -> PlannerError {
+        match self {
+            PlannerError::Device => PlannerError::OutOfMemory,
+            _ => self,
         }
     }
 }

@@ -2,3 +2,4 @@
 
 pub(crate) mod outputs;
 pub(crate) mod refusal;
+pub(crate) mod sink;

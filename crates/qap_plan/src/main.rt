@@ -20,7 +20,7 @@ use crate::commands::solve::solve_plan;
 use crate::commands::solve_instance::solve;
 use crate::commands::split::run_split;
 use crate::error::PlannerError;
-use crate::files::refusal::refuse;
+use crate::files::refusal::refuse_with;
 use clap::Error;
 use clap::error::ErrorKind;
 use plan_input::is_plan;
@@ -69,7 +69,7 @@ fn arguments(rt: &(impl Env + AllocGlobal)) -> io::Result<Vec<String>> {
 /// Reports why the command line could not be read.
 fn tell_unread(rt: &HostRuntime, error: &io::Error) -> ExitCode {
     if error.kind() == io::ErrorKind::OutOfMemory {
-        return refuse(rt, "qapplan", PlannerError::OutOfMemory);
+        return ExitCode::from(refuse_with(rt, "qapplan", PlannerError::OutOfMemory).code());
     }
     let _ = rt.eprintln("error: an argument is no text in UTF-8");
     ExitCode::from(Status::Usage.code())
@@ -78,7 +78,7 @@ fn tell_unread(rt: &HostRuntime, error: &io::Error) -> ExitCode {
 /// Prints the help or the version if requested, and otherwise what is wrong with the command line.
 fn tell(rt: &HostRuntime, error: &Error) -> ExitCode {
     if error.kind() == ErrorKind::OutOfMemory {
-        return refuse(rt, "qapplan", PlannerError::OutOfMemory);
+        return ExitCode::from(refuse_with(rt, "qapplan", PlannerError::OutOfMemory).code());
     }
     let _ = error.print(rt);
     ExitCode::from(error.exit_code() as u8)

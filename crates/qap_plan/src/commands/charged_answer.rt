@@ -57,7 +57,7 @@ where
     requires sizes { HasSizes charged.now.problem.now }
     requires charges { AreCharges charged.now.problem.now.instance.size charged.now.charges.now }
     requires forbidden { AreForbidden charged.now.problem.now.instance.size charged.now.forbidden.now }
-    ensures { IfOk result (IsChargedAnswer charged.now.problem.now charged.now.charges.now charged.now.forbidden.now) }
+    ensures { IfOk result (IsChargedAnswer charged.now.problem.now charged.now.charges.now charged.now.forbidden.now start) }
 {
     let problem = charged.problem;
     let restriction = Restriction {

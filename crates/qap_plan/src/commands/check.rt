@@ -1,14 +1,21 @@
 //! The subcommand `check`: its command line and its run.
 
+ghost use Rattle.std.specs.Prelude.{◌≡◌, IfOk, option_copied, option_map};
+ghost use Rattle.qap_io.specs.declared.status.Status.TheVariants.{Done};
+ghost use Rattle.qap_plan.specs.Checking.{ConfirmsNumbersIn, ConfirmsPlanIn};
+ghost use Rattle.qap_plan.specs.Sources.{IsGivenIn};
+
 use crate::commands::checking::{CheckFault, confirmed_numbers, confirmed_plan};
 use crate::commands::command_line::ignore_rest;
 use crate::commands::show::with_answer;
-use crate::files::refusal::refuse_restricted;
-use crate::input::instance_file::{instance_in, loaded_plan};
-use crate::input::judged_files::{bytes_of, print, refuse_answer, refuse_proof};
+use crate::files::outputs::Outputs;
+use crate::files::refusal::{Misuse, Refusal, ended};
+use crate::files::sink::Sink;
+use crate::input::file_bytes::bytes_in;
+use crate::input::instance_file::{instance_in, is_plain, plan_in};
 use clap::{Arg, ArgMatches, Command};
-use plan_charge::is_restricting;
-use plan_input::is_plan;
+use plan_input::{Disk, Texts, is_plan};
+use qap_io::Status;
 use std::alloc::{AllocError, Global};
 use std::process::ExitCode;
 
@@ -47,75 +54,73 @@ pub fn check_request<'a>(found: &ArgMatches<'a>) -> Option<CheckRequest<'a>> {
 
 /// Prints the cost of the answer in a file, and if a proof is named, what it establishes.
 pub fn run_check(rt: &HostRuntime, request: &CheckRequest<'_>) -> ExitCode {
-    let proof = match proof_of(rt, request) {
-        Ok(proof) => proof,
-        Err(code) => return code,
-    };
-    let proof = proof.as_deref();
-    if is_plan(request.file) {
-        check_plan(rt, request, proof)
+    let (alloc, texts) = (rt.alloc(), Disk { files: rt });
+    let mut outputs = Outputs::new(rt);
+    let run = if is_plan(request.file) {
+        check_plan(alloc, &texts, &mut outputs, request)
     } else {
-        check_instance(rt, request, proof)
-    }
+        check_instance(alloc, &texts, &mut outputs, request)
+    };
+    ended(rt, run)
 }
 
 /// The text of the proof that is named, where one is.
-fn proof_of(rt: &HostRuntime, request: &CheckRequest<'_>) -> Result<Option<Vec<u8>>, ExitCode> {
+fn proof_in<'a, D: Texts>(
+    alloc: Global,
+    texts: &D,
+    request: &CheckRequest<'a>,
+) -> Result<Option<Vec<u8>>, Refusal<'a>>
+    ensures { IfOk result (λ proof. IsGivenIn (D.holds texts.now) (option_copied request.now.proof) (option_map (λ v. v.items) proof)) }
+{
     match request.proof {
-        Some(file) => Ok(Some(bytes_of(rt, file)?)),
+        Some(file) => Ok(Some(bytes_in(alloc, texts, file)?)),
         None => Ok(None),
     }
 }
 
 /// Checks an answer to a plan.
-fn check_plan(rt: &HostRuntime, request: &CheckRequest<'_>, proof: Option<&[u8]>) -> ExitCode {
-    let loaded = match loaded_plan(rt, request.file) {
-        Ok(loaded) => loaded,
-        Err(code) => return code,
-    };
-    if is_restricting(&loaded.charges, &loaded.forbidden) {
-        return refuse_restricted(rt, request.file, "check");
+pub(crate) fn check_plan<'a, D: Texts, S: Sink>(
+    alloc: Global,
+    texts: &D,
+    sink: &mut S,
+    request: &CheckRequest<'a>,
+) -> Result<Status, Refusal<'a>>
+    ensures { IfOk result (λ status. status ≡ Done → ConfirmsPlanIn (D.holds texts.now) S.prints request.now sink.old sink.new) }
+{
+    let proof = proof_in(alloc, texts, request)?;
+    let loaded = plan_in(alloc, texts, request.file)?;
+    if !is_plain(&loaded) {
+        return Err(Refusal::Misuse(request.file, Misuse::Restricted("check")));
     }
-    let problem = loaded.problem;
-    let text = match bytes_of(rt, request.answer) {
-        Ok(text) => text,
-        Err(code) => return code,
-    };
-    let alloc = rt.alloc();
-    tell(rt, request, confirmed_plan(alloc, &problem, &text, proof))
+    let text = bytes_in(alloc, texts, request.answer)?;
+    match confirmed_plan(alloc, &loaded.problem, &text, proof.as_deref()) {
+        Ok(line) => Ok(sink.print(alloc, &line)),
+        Err(fault) => Err(refusal_of(request, fault)),
+    }
 }
 
 /// Checks an answer to an instance.
-fn check_instance(rt: &HostRuntime, request: &CheckRequest<'_>, proof: Option<&[u8]>) -> ExitCode {
-    let instance = match instance_in(rt, request.file, request.passes) {
-        Ok(instance) => instance,
-        Err(code) => return code,
-    };
-    let text = match bytes_of(rt, request.answer) {
-        Ok(text) => text,
-        Err(code) => return code,
-    };
-    let alloc = rt.alloc();
-    tell(
-        rt,
-        request,
-        confirmed_numbers(alloc, &instance, &text, proof),
-    )
+pub(crate) fn check_instance<'a, D: Texts, S: Sink>(
+    alloc: Global,
+    texts: &D,
+    sink: &mut S,
+    request: &CheckRequest<'a>,
+) -> Result<Status, Refusal<'a>>
+    ensures { IfOk result (λ status. status ≡ Done → ConfirmsNumbersIn (D.holds texts.now) S.prints request.now sink.old sink.new) }
+{
+    let proof = proof_in(alloc, texts, request)?;
+    let instance = instance_in(alloc, texts, request.file, request.passes)?;
+    let text = bytes_in(alloc, texts, request.answer)?;
+    match confirmed_numbers(alloc, &instance, &text, proof.as_deref()) {
+        Ok(line) => Ok(sink.print(alloc, &line)),
+        Err(fault) => Err(refusal_of(request, fault)),
+    }
 }
 
-/// Prints the line, or reports why the answer or its proof is refused.
-fn tell(
-    rt: &HostRuntime,
-    request: &CheckRequest<'_>,
-    line: Result<Vec<u8>, CheckFault>,
-) -> ExitCode {
-    match line {
-        Ok(line) => print(rt, &line),
-        Err(CheckFault::Answer(error)) => refuse_answer(rt, request.answer, &error),
-        Err(CheckFault::Proof(fault)) => refuse_proof(
-            rt,
-            request.proof.unwrap_or(request.file),
-            &fault,
-        ),
+/// Why the answer or its proof is refused.
+fn refusal_of<'a>(request: &CheckRequest<'a>, fault: CheckFault) -> Refusal<'a> {
+    match fault {
+        CheckFault::Answer(error) => Refusal::Answer(request.answer, error),
+        CheckFault::Proof(fault) => Refusal::Proof(request.proof.unwrap_or(request.file), fault),
     }
 }

@@ -1,12 +1,9 @@
 //! The reports on checked answers.
 
-ghost use Rattle.std.specs.Prelude.{IfOk, MatchOption, ◌≡◌};
-ghost use Rattle.plan_answer.specs.Stated.{IsCostLine};
-ghost use Rattle.plan_check.specs.Telling.{TellsProved};
+ghost use Rattle.std.specs.Prelude.{IfOk, option_copied};
 ghost use Rattle.plan_file.specs.Tables.{HasSizes};
-ghost use Rattle.qap_cost.specs.Objective.{Permutes, cost_of};
-ghost use Rattle.qap_plan.specs.Answer.{cost_line};
-ghost use Rattle.qap_plan.specs.Checking.{ConfirmsFound, ConfirmsPlan, TellsProvedCost};
+ghost use Rattle.qap_cost.specs.Objective.{Permutes};
+ghost use Rattle.qap_plan.specs.Checking.{ConfirmsFound, ConfirmsPlan, TellsOfNumbers, TellsOfPlan};
 
 use crate::output::answer::{cost_line, verdict_line};
 use plan_check::{
@@ -34,9 +31,7 @@ pub fn confirmed_plan(
     proof: Option<&[u8]>,
 ) -> Result<Vec<u8>, CheckFault>
     requires { HasSizes problem.now }
-    ensures { IfOk result (λ line. ConfirmsPlan problem.now text.now (λ p. MatchOption proof.entry
-        (IsCostLine problem.now (cost_of problem.now.instance p) line.items)
-        (λ t. TellsProved problem.now p t.now line.items))) }
+    ensures { IfOk result (λ line. ConfirmsPlan problem.now text.now (λ p. TellsOfPlan problem.now (option_copied proof.entry) p line.items)) }
 {
     let answer = match answer_to_plan(alloc, problem, text) {
         Ok(answer) => answer,
@@ -55,9 +50,7 @@ pub fn confirmed_numbers(
     text: &[u8],
     proof: Option<&[u8]>,
 ) -> Result<Vec<u8>, CheckFault>
-    ensures { IfOk result (λ line. ConfirmsFound instance.now text.now (λ p. MatchOption proof.entry
-        (line.items ≡ cost_line (cost_of instance.now p))
-        (λ t. TellsProvedCost instance.now p t.now line.items))) }
+    ensures { IfOk result (λ line. ConfirmsFound instance.now text.now (λ p. TellsOfNumbers instance.now (option_copied proof.entry) p line.items)) }
 {
     let answer = match answer_to_instance(alloc, instance, text) {
         Ok(answer) => answer,
@@ -77,8 +70,7 @@ fn checked_numbers(
     proof: Option<&[u8]>,
 ) -> Result<Vec<u8>, ProofFault>
     requires { Permutes instance.now permutation.now }
-    ensures { IfOk result (λ line. MatchOption proof.entry (line.items ≡ cost_line (cost_of instance.now permutation.now))
-        (λ text. TellsProvedCost instance.now permutation.now text.now line.items)) }
+    ensures { IfOk result (λ line. TellsOfNumbers instance.now (option_copied proof.entry) permutation.now line.items) }
 {
     let cost = cost(instance, permutation);
     let Some(text) = proof else {

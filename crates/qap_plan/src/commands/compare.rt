@@ -1,39 +1,40 @@
 //! The subcommand `compare`: its command line and its run.
 
-ghost use Rattle.std.specs.Prelude.{IfOk, IfSome, length, ◌≡◌};
+ghost use Rattle.std.specs.Prelude.{IfOk, IfSome, length, option_copied, ◌≡◌};
 ghost use Rattle.plan_answer.specs.Compared.{IsComparedText};
+ghost use Rattle.plan_answer.specs.Layout.{layout_text};
 ghost use Rattle.plan_file.specs.Tables.{HasSizes};
 ghost use Rattle.qap_cost.specs.Placement.{Completes};
+ghost use Rattle.qap_plan.specs.Comparing.{Compares, ComparesFrom, IsComparedIn, TellsComparison};
 ghost use Rattle.qap_plan.specs.Options.{AreLimited};
+ghost use Rattle.qap_plan.specs.Outputs.{EndsWith, IsSuccess, WritesFor};
 
-use crate::commands::arranging::plan_named;
 use crate::commands::command_line::{options_of, with_improvement, with_limits};
-use crate::commands::solve::tell_notes;
 use crate::error::PlannerError;
-use crate::files::outputs::{Inputs, Outputs, print_text, worse};
-use crate::files::refusal::{refuse, refuse_restricted};
-use crate::input::instance_file::{inputs_of, loaded_plan};
-use crate::input::judged_files::bytes_of;
-use crate::input::layout_file::{layout_in, solution_of};
+use crate::files::outputs::{Outputs, worse};
+use crate::files::refusal::{Misuse, Refusal, ended};
+use crate::files::sink::Sink;
+use crate::input::file_bytes::text_in;
+use crate::input::instance_file::{inputs_of, is_plain, plan_in};
+use crate::input::layout_file::layout_in;
 use crate::output::plan_outcome::table_text;
 use crate::output::progress::{Teller, telling_of};
+use crate::search::keeper::Keeper;
 use crate::search::options::Options;
 use crate::search::planning::{Planned, status_of};
 use crate::search::run_clock::RunClock;
+use crate::search::searching::search_keeping;
 use clap::{Arg, ArgMatches, Command};
-use output_file::file_id;
 use plan_answer::compared_text;
-use plan_charge::is_restricting;
 use plan_file::NamedProblem;
-use plan_input::is_plan;
-use plan_table::decode;
+use plan_input::{Disk, Loaded, Texts, is_plan, notes_of};
 use qap_cost::Perm;
-use qap_io::{Counted, Status};
+use qap_io::Status;
 use std::alloc::{AllocError, Global};
 use std::process::ExitCode;
 use std::sync::Wait;
 use std::thread::Threads;
-use std::time::Clock;
+use std::time;
 
 /// To compare today's arrangement with the best one.
 #[derive(Clone, Copy, Debug, PartialEq, Eq)]
@@ -89,137 +90,150 @@ pub fn compare_request<'a>(found: &ArgMatches<'a>) -> Option<CompareRequest<'a>>
 /// Compares today's arrangement of a plan with the best one. `system` provides threads, waiting and the time.
 pub fn run_compare<T>(system: &T, rt: &HostRuntime, request: &CompareRequest<'_>) -> ExitCode
 where
-    T: Threads + Wait + Clock + Sync,
+    T: Threads + Wait + time::Clock + Sync,
     requires { AreLimited request.now.options }
 {
+    let clock = RunClock::new(system, request.options.milliseconds);
+    let telling = telling_of(rt, request.progress);
+    let teller = Teller::new(rt, &clock, telling, request.stop_file);
+    let mut outputs = Outputs::new(rt);
+    let texts = Disk { files: rt };
+    let run = compare(system, rt.alloc(), &texts, &mut outputs, request, &teller);
+    ended(rt, run)
+}
+
+/// The same with texts from anywhere, and to anywhere.
+pub(crate) fn compare<'a, T, D, S, K>(
+    system: &T,
+    alloc: Global,
+    texts: &D,
+    sink: &mut S,
+    request: &CompareRequest<'a>,
+    keeper: &K,
+) -> Result<Status, Refusal<'a>>
+where
+    T: Threads + Wait + time::Clock + Sync,
+    D: Texts,
+    S: Sink,
+    K: Keeper,
+    requires { AreLimited request.now.options }
+    ensures { IfOk result (λ status. IsSuccess status → Compares (D.holds texts.now) S.writes S.prints request.now status sink.old sink.new) }
+{
     if !is_plan(request.file) {
-        return refuse_instance(rt, request.file);
+        return Err(Refusal::Misuse(request.file, Misuse::Names));
     }
-    let loaded = match loaded_plan(rt, request.file) {
-        Ok(loaded) => loaded,
-        Err(code) => return code,
-    };
-    if is_restricting(&loaded.charges, &loaded.forbidden) {
-        return refuse_restricted(rt, request.file, "compare");
+    let loaded = plan_in(alloc, texts, request.file)?;
+    if !is_plain(&loaded) {
+        return Err(Refusal::Misuse(request.file, Misuse::Restricted("compare")));
     }
-    tell_notes(rt, &loaded);
-    let today = match today_of(rt, &loaded.problem, request.today) {
-        Ok(today) => today,
-        Err(code) => return code,
-    };
-    let [plan, flows, distances, _] = inputs_of(rt, request.file, &loaded);
-    let inputs = [plan, flows, distances, file_id(rt, request.today)];
-    compare(system, rt, request, &loaded.problem, &today, &inputs)
+    note_all(alloc, sink, &loaded);
+    let problem = &loaded.problem;
+    let listed = text_in(alloc, texts, request.today)?;
+    let today = layout_in(alloc, problem, request.today, &listed)?;
+    let [plan, flows, distances, _] = inputs_of(request.file, &loaded);
+    let inputs = [plan, flows, distances, request.today];
+    if let Err(status) = sink.open(alloc, &[request.csv], &inputs) {
+        return Err(Refusal::Reported(status));
+    }
+    match compare_and_tell(system, alloc, sink, request, problem, &today, keeper) {
+        Ok(status) => Ok(status),
+        Err(error) => Err(Refusal::File(request.file, error)),
+    }
 }
 
-/// Tells that an instance has no names by which arrangements could be compared.
-fn refuse_instance(rt: &HostRuntime, file: &str) -> ExitCode {
-    let _ = rt.eprintln(format_args!(
-        "error: {file}: a plan is required, a file whose name ends in .toml: name one; an instance has no names"
-    ));
-    ExitCode::from(Status::Usage.code())
-}
-
-/// Today's arrangement, where its file lists one of the plan's.
-fn today_of(rt: &HostRuntime, problem: &NamedProblem, file: &str) -> Result<Perm, ExitCode>
-    requires { HasSizes problem.now }
-    ensures { IfOk result (λ today. length today ≡ problem.now.instance.size) }
-{
-    let bytes = bytes_of(rt, file)?;
-    let Ok(decoded) = decode(rt.alloc(), bytes) else {
-        return Err(refuse(rt, file, PlannerError::OutOfMemory));
-    };
-    let today = layout_in(rt, problem, file, &decoded.text)?;
-    Ok(today)
-}
-
-/// Searches from today's arrangement, and prints what that and the best one cost and what moves.
-fn compare<T>(
+/// Searches from today's arrangement, and reports what that finds.
+fn compare_and_tell<T, S, K>(
     system: &T,
-    rt: &HostRuntime,
+    alloc: Global,
+    sink: &mut S,
     request: &CompareRequest<'_>,
     problem: &NamedProblem,
     today: &Perm,
-    inputs: &Inputs,
-) -> ExitCode
+    keeper: &K,
+) -> Result<Status, PlannerError>
 where
-    T: Threads + Wait + Clock + Sync,
+    T: Threads + Wait + time::Clock + Sync,
+    S: Sink,
+    K: Keeper,
     requires limited { AreLimited request.now.options }
     requires sizes { HasSizes problem.now }
     requires today { length today.now ≡ problem.now.instance.size }
+    ensures { IfOk result (λ status. IsSuccess status → ComparesFrom S.writes S.prints (option_copied request.now.csv) problem.now today.now status sink.old sink.new) }
 {
-    let mut outputs = match Outputs::open(rt, &[request.csv], inputs) {
-        Ok(outputs) => outputs,
-        Err(code) => return code,
-    };
-    let found = match best_from(system, rt, request, problem, today) {
-        Ok(found) => found,
-        Err(error) => return refuse(rt, request.file, error),
-    };
-    let text = match told(rt.alloc(), problem, today, &found) {
-        Ok(text) => text,
-        Err(error) => return refuse(rt, request.file, error),
-    };
-    let mut status = worse(status_of(found.cost, found.bound), print_text(rt, &text));
-    if request.csv.is_some() {
-        let csv = table_text(rt.alloc(), problem, &found.permutation);
-        status = worse(status, outputs.put(rt, request.csv, csv));
+    let (best, text) = compared(system, alloc, problem, today, &request.options, keeper)?;
+    Ok(tell(alloc, sink, request.csv, problem, &best, &text))
+}
+
+/// Says what the tables were understood as, and what may not be meant.
+pub(crate) fn note_all<S: Sink>(alloc: Global, sink: &S, loaded: &Loaded) {
+    if let Ok(notes) = notes_of(alloc, loaded) {
+        for note in &notes {
+            sink.note(note.as_str());
+        }
     }
-    ExitCode::from(status.code())
 }
 
-/// What a search from today's arrangement finds.
-fn best_from<T>(
+/// What a search from today's arrangement finds, and what is reported about the two.
+fn compared<T, K>(
     system: &T,
-    rt: &HostRuntime,
-    request: &CompareRequest<'_>,
-    problem: &NamedProblem,
-    today: &Perm,
-) -> Result<Planned, PlannerError>
-where
-    T: Threads + Wait + Clock + Sync,
-    requires limited { AreLimited request.now.options }
-    requires sizes { HasSizes problem.now }
-    requires today { length today.now ≡ problem.now.instance.size }
-    ensures { IfOk result (λ found. Completes problem.now.fixed found.permutation) }
-{
-    let alloc = rt.alloc();
-    let start = solution_of(alloc, problem, today)?;
-    let elapsed = RunClock::new(system, request.options.milliseconds);
-    let teller = Teller::new(
-        rt,
-        &elapsed,
-        telling_of(rt, request.progress),
-        request.stop_file,
-    );
-    let mut reader = Some(Counted::new(start.as_slice()));
-    let text = &mut Counted::new(Vec::new(alloc));
-    let answer = plan_named(
-        system,
-        alloc,
-        problem,
-        &mut reader,
-        text,
-        &request.options,
-        &teller,
-    );
-    teller.finish();
-    let found = answer?;
-    Ok(found)
-}
-
-/// What is reported about the two arrangements.
-fn told(
     alloc: Global,
     problem: &NamedProblem,
     today: &Perm,
-    found: &Planned,
-) -> Result<Vec<u8>, PlannerError>
+    options: &Options,
+    keeper: &K,
+) -> Result<(Planned, Vec<u8>), PlannerError>
+where
+    T: Threads + Wait + time::Clock + Sync,
+    K: Keeper,
+    requires limited { AreLimited options.now }
     requires sizes { HasSizes problem.now }
     requires today { length today.now ≡ problem.now.instance.size }
-    requires kept { Completes problem.now.fixed found.now.permutation }
-    ensures { IfOk result (λ text. IsComparedText problem.now today.now found.now.permutation found.now.bound text.items) }
+    ensures { IfOk result (λ found. IsComparedIn problem.now today.now found.0 found.1.items) }
 {
-    let text = compared_text(alloc, problem, today, &found.permutation, found.bound)?;
-    Ok(text)
+    let (instance, fixed) = (&problem.instance, &problem.fixed);
+    let start = Some(today.copy()?);
+    let found = search_keeping(system, alloc, instance, fixed, start, options, keeper);
+    keeper.finish();
+    let best = found?;
+    let text = compared_text(alloc, problem, today, &best.permutation, best.bound)?;
+    Ok((best, text))
+}
+
+/// Prints what is reported, and writes the best arrangement, if that is requested.
+fn tell<S: Sink>(
+    alloc: Global,
+    sink: &mut S,
+    csv: Option<&str>,
+    problem: &NamedProblem,
+    best: &Planned,
+    text: &[u8],
+) -> Status
+    requires sizes { HasSizes problem.now }
+    requires kept { Completes problem.now.fixed best.now.permutation }
+    ensures { IsSuccess result → TellsComparison S.writes S.prints (option_copied csv.entry) problem.now best.now text.now result sink.old sink.new }
+{
+    let printed = sink.print(alloc, text);
+    let written = write_table(alloc, sink, csv, problem, best);
+    worse(status_of(best.cost, best.bound), worse(printed, written))
+}
+
+/// Writes an arrangement as a table, if that is requested.
+fn write_table<S: Sink>(
+    alloc: Global,
+    sink: &mut S,
+    csv: Option<&str>,
+    problem: &NamedProblem,
+    best: &Planned,
+) -> Status
+    requires sizes { HasSizes problem.now }
+    requires kept { Completes problem.now.fixed best.now.permutation }
+    ensures { EndsWith result (WritesFor S.writes (option_copied csv.entry) (λ t. t ≡ layout_text problem.now best.now.permutation) sink.old sink.new) }
+{
+    let Some(name) = csv else {
+        return Status::Done;
+    };
+    match table_text(alloc, problem, &best.permutation) {
+        Ok(table) => sink.put(alloc, name, &table),
+        Err(error) => sink.refuse(name, error),
+    }
 }

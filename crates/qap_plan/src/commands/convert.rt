@@ -1,23 +1,20 @@
 //! The subcommand `convert`: its command line and its run.
 
-ghost use Rattle.plan_charge.specs.Charges.{AreCharges};
-ghost use Rattle.plan_charge.specs.Forbidden.{AreForbidden};
-ghost use Rattle.plan_file.specs.Tables.{HasSizes};
+ghost use Rattle.std.specs.Prelude.{◌≡◌, IfOk, None, Some, if◌then◌else◌, option_copied, string_bytes};
+ghost use Rattle.qap_io.specs.declared.status.Status.TheVariants.{Done};
+ghost use Rattle.qap_plan.specs.Converting.{Converts, WritesConverted, names_file};
+ghost use Rattle.qap_plan.specs.Outputs.{EndsWith, WritesFor};
 
-use crate::commands::converting::{Converted, convert, convert_larger, summary};
+use crate::commands::converting::{Converted, converted_texts};
 use crate::error::PlannerError;
-use crate::files::outputs::{Outputs, print_text};
-use crate::files::refusal::{refuse, refuse_with};
-use crate::input::instance_file::{inputs_of, loaded_plan};
-use crate::input::restriction::{Restriction, widened};
+use crate::files::outputs::Outputs;
+use crate::files::refusal::{Misuse, Refusal, ended};
+use crate::files::sink::Sink;
+use crate::input::instance_file::{inputs_of, plan_in};
 use clap::{Arg, ArgMatches, Command};
-use plan_charge::is_restricting;
-use plan_file::NamedProblem;
-use plan_input::{Loaded, is_plan};
-use qap_cost::Instance;
+use plan_input::{Disk, Texts, is_plan};
 use qap_io::Status;
 use std::alloc::{AllocError, Global};
-use std::fs;
 use std::process::ExitCode;
 
 /// To write the tables of a plan as an instance in the QAPLIB format.
@@ -58,108 +55,87 @@ pub fn convert_request<'a>(found: &ArgMatches<'a>) -> Option<ConvertRequest<'a>>
 
 /// Writes the instance of a plan's tables, and beside it the names and the scales, and prints its size.
 pub fn run_convert(rt: &HostRuntime, request: &ConvertRequest<'_>) -> ExitCode {
-    if !is_plan(request.plan) {
-        return refuse_instance(rt, request.plan);
-    }
-    let loaded = match loaded_plan(rt, request.plan) {
-        Ok(loaded) => loaded,
-        Err(code) => return code,
-    };
-    let Ok(beside) = format!(in rt.alloc(); "{}.json", request.out) else {
-        return refuse(rt, request.out, PlannerError::OutOfMemory);
-    };
-    let beside = if is_device(rt, request.out) {
-        None
-    } else {
-        Some(beside.as_str())
-    };
-    let larger = match larger_of(rt.alloc(), &loaded) {
-        Ok(larger) => larger,
-        Err(error) => return refuse(rt, request.plan, error),
-    };
-    let inputs = inputs_of(rt, request.plan, &loaded);
-    let mut outputs = match Outputs::open(rt, &[beside, Some(request.out)], &inputs) {
-        Ok(outputs) => outputs,
-        Err(code) => return code,
-    };
-    let files = (beside, request.out);
-    let status = write_both(rt, &mut outputs, files, &loaded.problem, &larger);
-    ExitCode::from(status.code())
+    let mut outputs = Outputs::new(rt);
+    let run = convert(rt.alloc(), &Disk { files: rt }, &mut outputs, request);
+    ended(rt, run)
 }
 
-/// The larger instance of a plan with costs of places or forbidden places; `None` for any other plan.
-fn larger_of(alloc: Global, loaded: &Loaded) -> Result<Option<Instance>, PlannerError>
-    requires sizes { HasSizes loaded.now.problem }
-    requires charges { AreCharges loaded.now.problem.instance.size loaded.now.charges }
-    requires forbidden { AreForbidden loaded.now.problem.instance.size loaded.now.forbidden }
+/// The same with texts from anywhere, and to anywhere.
+pub(crate) fn convert<'a, D: Texts, S: Sink>(
+    alloc: Global,
+    texts: &D,
+    sink: &mut S,
+    request: &ConvertRequest<'a>,
+) -> Result<Status, Refusal<'a>>
+    ensures { IfOk result (λ status. status ≡ Done → Converts (D.holds texts.now) S.writes S.prints S.holds_device request.now sink.old sink.new) }
 {
-    if !is_restricting(&loaded.charges, &loaded.forbidden) {
-        return Ok(None);
+    if !is_plan(request.plan) {
+        return Err(Refusal::Misuse(request.plan, Misuse::Conversion));
     }
-    let restriction = Restriction {
-        fixed: &loaded.problem.fixed,
-        charges: &loaded.charges,
-        forbidden: &loaded.forbidden,
+    let loaded = plan_in(alloc, texts, request.plan)?;
+    let texts = match converted_texts(alloc, &loaded) {
+        Ok(texts) => texts,
+        Err(error) => return Err(Refusal::File(request.plan, error)),
     };
-    let larger = widened(alloc, &loaded.problem.instance, &restriction)?;
-    Ok(Some(larger.instance))
+    let Ok(name) = name_beside(alloc, request.out) else {
+        return Err(Refusal::File(request.out, PlannerError::OutOfMemory));
+    };
+    let is_device = sink.is_device(request.out);
+    let beside = beside_of(is_device, name.as_str());
+    let names = [beside, Some(request.out)];
+    match sink.open(alloc, &names, &inputs_of(request.plan, &loaded)) {
+        Ok(()) => Ok(write_converted(alloc, sink, beside, request.out, &texts)),
+        Err(status) => Err(Refusal::Reported(status)),
+    }
+}
+
+/// The file of the names: there is none beside a device.
+fn beside_of<'b>(is_device: bool, name: &'b str) -> Option<&'b str>
+    ensures { option_copied result ≡ (if is_device then None else Some name.now) }
+{
+    if is_device { None } else { Some(name) }
+}
+
+/// The name of the file of the names, beside that of the instance.
+fn name_beside(alloc: Global, out: &str) -> Result<String, AllocError>
+    ensures { IfOk result (λ name. string_bytes name ≡ names_file out.now) }
+{
+    format!(in alloc; "{out}.json")
 }
 
 /// Writes the names, so that no instance is without them, and then the instance; to a device, the instance alone. Then
 /// it prints the size.
-fn write_both(
-    rt: &HostRuntime,
-    outputs: &mut Outputs<'_>,
-    files: (Option<&str>, &str),
-    problem: &NamedProblem,
-    larger: &Option<Instance>,
-) -> Status {
-    let (beside, out) = files;
-    let Ok((line, converted)) = texts_of(rt.alloc(), problem, larger) else {
-        return refuse_with(rt, out, PlannerError::OutOfMemory);
-    };
-    let Converted { text, names } = converted;
-    let written = outputs.put(rt, beside, Ok(names.into_bytes()));
-    if written != Status::Done {
-        return written;
-    }
-    let written = outputs.put(rt, Some(out), Ok(text));
-    if written != Status::Done {
-        return written;
-    }
-    print_text(rt, line.as_bytes())
-}
-
-/// The line with the size, and the text of the instance with its names.
-fn texts_of(
+fn write_converted<S: Sink>(
     alloc: Global,
-    problem: &NamedProblem,
-    larger: &Option<Instance>,
-) -> Result<(String, Converted), AllocError> {
-    match larger {
-        Some(larger) => {
-            let line = summary(alloc, problem, larger.size())?;
-            Ok((line, convert_larger(alloc, problem, larger)?))
-        }
-        None => {
-            let line = summary(alloc, problem, problem.instance.size())?;
-            Ok((line, convert(alloc, problem)?))
-        }
+    sink: &mut S,
+    beside: Option<&str>,
+    out: &str,
+    texts: &Converted,
+) -> Status
+    ensures { EndsWith result (WritesConverted S.writes S.prints (option_copied beside.entry) out.now texts.now sink.old sink.new) }
+{
+    let written = write_beside(alloc, sink, beside, texts);
+    if written != Status::Done {
+        return written;
     }
+    let written = sink.put(alloc, out, &texts.text);
+    if written != Status::Done {
+        return written;
+    }
+    sink.print(alloc, texts.line.as_bytes())
 }
 
-/// Whether something of this name is there that is not a regular file.
-fn is_device(rt: &HostRuntime, name: &str) -> bool {
-    match fs::metadata(rt, name) {
-        Ok(found) => !found.is_file(),
-        Err(_) => false,
+/// Writes the names, if they have a file.
+fn write_beside<S: Sink>(
+    alloc: Global,
+    sink: &mut S,
+    beside: Option<&str>,
+    texts: &Converted,
+) -> Status
+    ensures { EndsWith result (WritesFor S.writes (option_copied beside.entry) (λ t. t ≡ texts.now.names.items) sink.old sink.new) }
+{
+    match beside {
+        Some(name) => sink.put(alloc, name, &texts.names),
+        None => Status::Done,
     }
-}
-
-/// Tells that an instance without names isn't converted.
-fn refuse_instance(rt: &HostRuntime, file: &str) -> ExitCode {
-    let _ = rt.eprintln(format_args!(
-        "error: {file}: a plan is required, a file whose name ends in .toml: name one; an instance in the QAPLIB format stays as it is"
-    ));
-    ExitCode::from(Status::Usage.code())
 }

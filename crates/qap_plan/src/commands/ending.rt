@@ -1,14 +1,17 @@
 //! How a run ends.
 
-ghost use Rattle.std.specs.Prelude.{◌≤◌};
-ghost use Rattle.qap_plan.specs.Outputs.{severity};
+ghost use Rattle.std.specs.Prelude.{◌≡◌, ◌≤◌, option_copied};
+ghost use Rattle.qap_plan.specs.Answers.{Answers};
+ghost use Rattle.qap_plan.specs.Outputs.{EndsWith, IsSuccess, PrintsFor, WritesFor, severity};
+ghost use Rattle.qap_plan.specs.declared.output.outcome.Kind.TheVariants.{Answer};
 
 use crate::commands::command_line::Request;
 use crate::error::PlannerError;
-use crate::files::outputs::{Outputs, print_text, worse};
-use crate::files::refusal::refuse_with;
+use crate::files::outputs::worse;
+use crate::files::sink::Sink;
 use crate::output::outcome::{Kind, Outcome};
 use qap_io::Status;
+use std::alloc::Global;
 
 /// The file that an error is about.
 pub(crate) fn faulty_file<'a>(request: &Request<'a>, error: PlannerError) -> &'a str {
@@ -22,59 +25,65 @@ pub(crate) fn faulty_file<'a>(request: &Request<'a>, error: PlannerError) -> &'a
 }
 
 /// Prints the answer and writes the requested files, each independently of the others, and returns how the run ends.
-pub(crate) fn write_outputs<F: Outcome>(
-    rt: &HostRuntime,
+pub(crate) fn write_outputs<F: Outcome, S: Sink>(
+    alloc: Global,
+    sink: &mut S,
     request: &Request<'_>,
-    mut outputs: Outputs<'_>,
     found: &F,
 ) -> Status
     requires { F.is_sound found.now }
-    ensures { severity (F.ends found.now) ≤ severity result }
+    ensures severity { severity (F.ends found.now) ≤ severity result }
+    ensures ends { IsSuccess result → result ≡ F.ends found.now }
+    ensures written { IsSuccess result → Answers S.writes S.prints request.now (F.tells found.now) sink.old sink.new }
 {
-    let mut status = found.status();
-    if !request.quiet {
-        status = worse(status, print_answer(rt, request.file, found));
-    }
-    for file in &files_of(request) {
-        status = worse(status, write_file(rt, &mut outputs, found, *file));
-    }
-    status
+    let ends = found.status();
+    let printed = print_answer(alloc, sink, request, found);
+    let answer = write_file(alloc, sink, found, Kind::Answer, request.out);
+    let json = write_file(alloc, sink, found, Kind::Json, request.json);
+    let table = write_file(alloc, sink, found, Kind::Table, request.csv);
+    let picture = write_file(alloc, sink, found, Kind::Picture, request.svg);
+    let report = write_file(alloc, sink, found, Kind::Report, request.report);
+    let proof = write_file(alloc, sink, found, Kind::Proof, request.proof);
+    let texts = worse(worse(printed, answer), worse(json, table));
+    let others = worse(worse(picture, report), proof);
+    worse(ends, worse(texts, others))
 }
 
-/// Writes one of the files, if it is requested.
-fn write_file<F: Outcome>(
-    rt: &HostRuntime,
-    outputs: &mut Outputs<'_>,
+/// Writes the file of a kind, if it is requested.
+fn write_file<F: Outcome, S: Sink>(
+    alloc: Global,
+    sink: &mut S,
     found: &F,
-    file: (Kind, Option<&str>),
+    kind: Kind,
+    name: Option<&str>,
 ) -> Status
     requires { F.is_sound found.now }
+    ensures { EndsWith result (WritesFor S.writes (option_copied name.entry) (F.tells found.now kind) sink.old sink.new) }
 {
-    let (kind, name) = file;
-    match name {
-        Some(_) => outputs.put(rt, name, found.text(rt.alloc(), kind)),
-        None => Status::Done,
+    let Some(name) = name else {
+        return Status::Done;
+    };
+    match found.text(alloc, kind) {
+        Ok(text) => sink.put(alloc, name, &text),
+        Err(error) => sink.refuse(name, error),
     }
 }
 
-/// The files that are requested, each with what goes into it.
-fn files_of<'a>(request: &Request<'a>) -> [(Kind, Option<&'a str>); 6] {
-    [
-        (Kind::Answer, request.out),
-        (Kind::Json, request.json),
-        (Kind::Table, request.csv),
-        (Kind::Picture, request.svg),
-        (Kind::Report, request.report),
-        (Kind::Proof, request.proof),
-    ]
-}
-
-/// Prints the answer in words.
-fn print_answer<F: Outcome>(rt: &HostRuntime, file: &str, found: &F) -> Status
+/// Prints the answer in words, unless the request is to be quiet.
+fn print_answer<F: Outcome, S: Sink>(
+    alloc: Global,
+    sink: &mut S,
+    request: &Request<'_>,
+    found: &F,
+) -> Status
     requires { F.is_sound found.now }
+    ensures { EndsWith result (PrintsFor S.prints request.now.quiet (F.tells found.now Answer) sink.old sink.new) }
 {
-    match found.text(rt.alloc(), Kind::Answer) {
-        Ok(text) => print_text(rt, &text),
-        Err(error) => refuse_with(rt, file, error),
+    if request.quiet {
+        return Status::Done;
+    }
+    match found.text(alloc, Kind::Answer) {
+        Ok(text) => sink.print(alloc, &text),
+        Err(error) => sink.refuse(request.file, error),
     }
 }

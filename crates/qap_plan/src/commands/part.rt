@@ -1,21 +1,25 @@
 //! The subcommand `part`: its command line and its run.
 
-ghost use Rattle.std.specs.Prelude.{IfOk, IfSome, string_bytes, ◌≡◌, ◌≤◌};
+ghost use Rattle.std.specs.Prelude.{IfOk, IfSome, None, string_bytes, ◌≡◌, ◌≤◌, ◌≤ℤ◌, ◌⊎◌};
 ghost use Rattle.qap_cost.specs.Objective.{Permutes};
 ghost use Rattle.qap_proof.specs.Claim.{IsRoot};
 ghost use Rattle.qap_plan.specs.Answer.{part_line};
 ghost use Rattle.qap_plan.specs.Options.{AreLimited};
 ghost use Rattle.qap_plan.specs.Outcome.{status_of as status_for};
-ghost use Rattle.qap_plan.specs.Outputs.{severity};
+ghost use Rattle.qap_plan.specs.Outputs.{IsSuccess, severity};
+ghost use Rattle.qap_plan.specs.Solving.{FindsPart, IsPosed, IsSolved, SolvesPart, Stands, TellsKept, TellsPart, WritesPart};
 
 use crate::commands::command_line::{ignore_rest, time_limit, with_limits};
 use crate::error::PlannerError;
-use crate::files::outputs::{Inputs, Outputs, print_text, worse};
-use crate::files::refusal::{refuse, refuse_with};
+use crate::files::outputs::{Outputs, worse};
+use crate::files::refusal::{Refusal, ended};
+use crate::files::sink::Sink;
+use crate::input::file_bytes::bytes_in;
 use crate::input::instance_file::{Searched, searched_in};
-use crate::input::starting::read_permutation;
+use crate::input::starting::permutation_in;
 use crate::output::progress::{Teller, telling_of};
 use crate::output::proof_file::proof_text;
+use crate::search::keeper::Keeper;
 use crate::search::memory_limit::WithinMemory;
 use crate::search::options::{MAX_WORKERS, Options};
 use crate::search::planning::{Planned, status_of};
@@ -23,16 +27,15 @@ use crate::search::proving::prove_below;
 use crate::search::run_clock::RunClock;
 use crate::search::standing::standing_proof;
 use clap::{Arg, ArgMatches, Command};
+use plan_input::{Disk, Texts};
 use qap_cost::{Instance, Partial, Perm, cost};
-use qap_io::{Counted, Status};
-use qap_proof::read_node_text;
-use qap_text::{MAX_INPUT, read_all};
+use qap_io::Status;
+use qap_proof::{Stated, read_node_text};
 use std::alloc::{AllocError, Global};
-use std::fs;
 use std::process::ExitCode;
 use std::sync::Wait;
 use std::thread::Threads;
-use std::time::Clock;
+use std::time;
 
 /// To solve a part.
 #[derive(Clone, Copy, Debug, PartialEq, Eq)]
@@ -119,137 +122,220 @@ pub fn part_request<'a>(found: &ArgMatches<'a>) -> Option<PartRequest<'a>>
 /// Solves a part, and writes its proof; an existing valid one is kept. `system` provides threads and the time.
 pub fn run_part<T>(system: &T, rt: &HostRuntime, request: &PartRequest<'_>) -> ExitCode
 where
-    T: Threads + Wait + Clock + Sync,
+    T: Threads + Wait + time::Clock + Sync,
     requires { AreLimited request.now.options }
 {
-    let Searched {
-        instance,
-        root: _,
-        inputs,
-        start: _,
-    } = match searched_in(rt, request.file, request.options.passes) {
-        Ok(searched) => searched,
-        Err(code) => return code,
-    };
-    match node_and_start(rt, request, &instance) {
-        Ok((node, start)) => run_on(system, rt, request, &instance, &inputs, &node, &start),
-        Err((file, error)) => refuse(rt, file, error),
-    }
+    let clock = RunClock::new(system, request.options.milliseconds);
+    let telling = telling_of(rt, request.progress);
+    let teller = Teller::new(rt, &clock, telling, request.stop_file);
+    let mut outputs = Outputs::new(rt);
+    let texts = Disk { files: rt };
+    let run = part(system, rt.alloc(), &texts, &mut outputs, request, &teller);
+    ended(rt, run)
 }
 
-/// The part's node and the initial permutation; otherwise the name of what is at fault, and why.
-fn node_and_start<'a>(
-    rt: &HostRuntime,
-    request: &PartRequest<'a>,
-    instance: &Instance,
-) -> Result<(Partial, Perm), (&'a str, PlannerError)>
-    ensures root { IfOk result (λ found. IsRoot instance.now.size found.0) }
-    ensures permutes { IfOk result (λ found. Permutes instance.now found.1) }
-{
-    let node = match read_node_text(rt.alloc(), request.node.as_bytes(), instance.size()) {
-        Ok(Some(node)) => node,
-        Ok(None) => return Err(("--node", PlannerError::Node)),
-        Err(_) => return Err(("--node", PlannerError::OutOfMemory)),
-    };
-    let Ok(file) = fs::open(rt, request.start) else {
-        return Err((request.start, PlannerError::Device));
-    };
-    match read_permutation(rt.alloc(), &mut Counted::new(file), instance) {
-        Ok(start) => Ok((node, start)),
-        Err(error) => Err((request.start, error)),
-    }
+/// A part, and where its search starts.
+#[derive(Drop)]
+pub struct Posed {
+    pub searched: Searched,
+    pub node: Partial,
+    pub start: Perm,
 }
 
-/// Solves the part from the permutation, unless its proof already exists.
-fn run_on<T>(
+/// The same with texts from anywhere, and to anywhere.
+pub(crate) fn part<'a, T, D, S, K>(
     system: &T,
-    rt: &HostRuntime,
-    request: &PartRequest<'_>,
-    instance: &Instance,
-    inputs: &Inputs,
-    node: &Partial,
-    start: &Perm,
-) -> ExitCode
+    alloc: Global,
+    texts: &D,
+    sink: &mut S,
+    request: &PartRequest<'a>,
+    keeper: &K,
+) -> Result<Status, Refusal<'a>>
 where
-    T: Threads + Wait + Clock + Sync,
-    requires limited { AreLimited request.now.options }
-    requires root { IsRoot instance.now.size node.now }
-    requires start { Permutes instance.now start.now }
+    T: Threads + Wait + time::Clock + Sync,
+    D: Texts,
+    S: Sink,
+    K: Keeper,
+    requires { AreLimited request.now.options }
+    ensures { IfOk result (λ status. IsSuccess status → SolvesPart (D.holds texts.now) S.writes S.prints request.now status sink.old sink.new) }
 {
-    let alloc = rt.alloc();
-    if let Some(text) = earlier(rt, request.proof) {
-        let known = cost(instance, start);
-        match standing_proof(alloc, instance, node, known, &text) {
-            // What the proof shows reaches the lesser of its own cost and the start's: the part is complete.
-            Ok(Some(stated)) => {
-                let status = end(rt, stated.cost.min(known), stated.bound, " before");
-                return ExitCode::from(status.code());
-            }
-            Ok(None) => {}
-            Err(_) => return refuse(rt, request.proof, PlannerError::OutOfMemory),
-        }
+    let posed = posed_in(alloc, texts, request)?;
+    if let Some(stated) = standing_in(alloc, texts, sink, request.proof, &posed)? {
+        return Ok(tell_kept(alloc, sink, &posed, &stated));
     }
-    let outputs = match Outputs::open(rt, &[Some(request.proof)], inputs) {
-        Ok(outputs) => outputs,
-        Err(code) => return code,
-    };
-    let elapsed = RunClock::new(system, request.options.milliseconds);
-    let teller = Teller::new(
-        rt,
-        &elapsed,
-        telling_of(rt, request.progress),
-        request.stop_file,
-    );
-    let within = WithinMemory::new(&teller, request.options.allowed_bytes());
-    let options = &request.options;
-    let found = prove_below(system, alloc, instance, node, start, options, &within);
-    teller.finish();
-    match found {
-        Ok(part) => finish(rt, request, outputs, &part),
-        Err(_) => refuse(rt, request.file, PlannerError::OutOfMemory),
+    let inputs = posed.searched.inputs(request.file);
+    if let Err(status) = sink.open(alloc, &[Some(request.proof)], &inputs) {
+        return Err(Refusal::Reported(status));
+    }
+    match solve_and_write(system, alloc, sink, request, &posed, keeper) {
+        Ok(status) => Ok(status),
+        Err(error) => Err(Refusal::File(request.file, error)),
     }
 }
 
-/// The content of the file of an earlier run; `None` if there is no such file, or it cannot be read.
-fn earlier(rt: &HostRuntime, name: &str) -> Option<Vec<u8>> {
-    let found = fs::metadata(rt, name).ok()?;
-    if !found.is_file() {
-        return None;
-    }
-    let file = fs::open(rt, name).ok()?;
-    read_all(rt.alloc(), &mut Counted::new(file), MAX_INPUT).ok()
+/// Says that the proof of an earlier run is kept. What it shows reaches the lesser of its own cost and the start's: the part is
+/// complete.
+fn tell_kept<S: Sink>(alloc: Global, sink: &mut S, posed: &Posed, stated: &Stated) -> Status
+    requires { Permutes posed.now.searched.instance posed.now.start }
+    ensures { IsSuccess result → TellsKept S.prints posed.now stated.now result sink.old sink.new }
+{
+    let known = cost(&posed.searched.instance, &posed.start);
+    let least = lesser(stated.cost, known);
+    tell(alloc, sink, least, stated.bound, " before")
 }
 
-/// Writes the proof, prints what it establishes, and returns the exit status. If the proof cannot be written, nothing
-/// is printed about it.
-fn finish(
-    rt: &HostRuntime,
+/// The lesser of two costs.
+fn lesser(left: i128, right: i128) -> i128
+    ensures one { (result ≡ left) ⊎ (result ≡ right) }
+    ensures left { result ≤ℤ left }
+    ensures right { result ≤ℤ right }
+{
+    if left < right { left } else { right }
+}
+
+/// Searches a part, and writes what that finds.
+fn solve_and_write<T, S, K>(
+    system: &T,
+    alloc: Global,
+    sink: &mut S,
     request: &PartRequest<'_>,
-    mut outputs: Outputs<'_>,
-    part: &Planned,
-) -> ExitCode {
-    let text = proof_text(rt.alloc(), part);
-    let written = outputs.put(rt, Some(request.proof), text);
-    let status = if written == Status::Done {
-        end(rt, part.cost, part.bound, "")
-    } else {
-        written
-    };
-    ExitCode::from(status.code())
+    posed: &Posed,
+    keeper: &K,
+) -> Result<Status, PlannerError>
+where
+    T: Threads + Wait + time::Clock + Sync,
+    S: Sink,
+    K: Keeper,
+    requires root { IsRoot posed.now.searched.instance.size posed.now.node }
+    requires start { Permutes posed.now.searched.instance posed.now.start }
+    ensures { IfOk result (λ status. IsSuccess status → FindsPart S.writes S.prints request.now.proof.now posed.now status sink.old sink.new) }
+{
+    let (found, text) = solved(system, alloc, posed, &request.options, keeper)?;
+    Ok(write_part(alloc, sink, request.proof, &found, &text))
 }
 
-/// Prints what the proof of the part establishes, and returns the exit status.
-fn end(rt: &HostRuntime, cost: i128, bound: i128, when: &str) -> Status
-    ensures { severity (status_for cost bound) ≤ severity result }
+/// What is to be solved.
+fn posed_in<'a, D: Texts>(
+    alloc: Global,
+    texts: &D,
+    request: &PartRequest<'a>,
+) -> Result<Posed, Refusal<'a>>
+    ensures root { IfOk result (λ p. IsRoot p.searched.instance.size p.node) }
+    ensures start { IfOk result (λ p. Permutes p.searched.instance p.start) }
+    ensures posed { IfOk result (IsPosed (D.holds texts.now) request.now) }
 {
-    let status = status_of(cost, bound);
-    match line_of(rt.alloc(), cost, bound, when) {
-        Ok(line) => worse(status, print_text(rt, line.as_bytes())),
-        Err(_) => worse(
-            status,
-            refuse_with(rt, "standard output", PlannerError::OutOfMemory),
-        ),
+    let searched = searched_in(alloc, texts, request.file, request.options.passes)?;
+    let node = match read_node_text(alloc, request.node.as_bytes(), searched.instance.size()) {
+        Ok(Some(node)) => node,
+        Ok(None) => return Err(Refusal::File("--node", PlannerError::Node)),
+        Err(_) => return Err(Refusal::File("--node", PlannerError::OutOfMemory)),
+    };
+    let bytes = bytes_in(alloc, texts, request.start)?;
+    match permutation_in(alloc, &bytes, &searched.instance) {
+        Ok(start) => Ok(Posed {
+            searched,
+            node,
+            start,
+        }),
+        Err(error) => Err(Refusal::File(request.start, error)),
     }
+}
+
+/// What the proof of an earlier run establishes, if it is there, and the part is complete by it. A device is not read.
+fn standing_in<'a, D: Texts, S: Sink>(
+    alloc: Global,
+    texts: &D,
+    sink: &S,
+    file: &'a str,
+    posed: &Posed,
+) -> Result<Option<Stated>, Refusal<'a>>
+    requires start { Permutes posed.now.searched.instance posed.now.start }
+    ensures { IfOk result (λ stated. IfSome stated (Stands (D.holds texts.now) file.now posed.now)) }
+{
+    if sink.is_device(file) {
+        return Ok(None);
+    }
+    let text = match bytes_in(alloc, texts, file) {
+        Ok(text) => text,
+        Err(refusal) => return unread(refusal),
+    };
+    let instance = &posed.searched.instance;
+    let known = cost(instance, &posed.start);
+    match standing_proof(alloc, instance, &posed.node, known, &text) {
+        Ok(stated) => Ok(stated),
+        Err(_) => Err(Refusal::File(file, PlannerError::OutOfMemory)),
+    }
+}
+
+/// There is no proof if its file cannot be read, unless for want of memory.
+fn unread(refusal: Refusal<'_>) -> Result<Option<Stated>, Refusal<'_>>
+    ensures { IfOk result (λ stated. stated ≡ None) }
+{
+    match refusal {
+        Refusal::File(_, PlannerError::OutOfMemory) => Err(refusal),
+        _ => Ok(None),
+    }
+}
+
+/// What the search of the part has found, and the text of its proof.
+fn solved<T, K>(
+    system: &T,
+    alloc: Global,
+    posed: &Posed,
+    options: &Options,
+    keeper: &K,
+) -> Result<(Planned, Vec<u8>), PlannerError>
+where
+    T: Threads + Wait + time::Clock + Sync,
+    K: Keeper,
+    requires root { IsRoot posed.now.searched.instance.size posed.now.node }
+    requires start { Permutes posed.now.searched.instance posed.now.start }
+    ensures { IfOk result (λ s. IsSolved posed.now s.0 s.1.items) }
+{
+    let within = WithinMemory::new(keeper, options.allowed_bytes());
+    let (instance, node) = (&posed.searched.instance, &posed.node);
+    let found = prove_below(
+        system,
+        alloc,
+        instance,
+        node,
+        &posed.start,
+        options,
+        &within,
+    );
+    keeper.finish();
+    let found = found?;
+    let text = proof_text(alloc, &found)?;
+    Ok((found, text))
+}
+
+/// Writes the proof, and prints what it establishes. If the proof cannot be written, nothing is printed about it.
+fn write_part<S: Sink>(
+    alloc: Global,
+    sink: &mut S,
+    file: &str,
+    found: &Planned,
+    text: &[u8],
+) -> Status
+    ensures { IsSuccess result → WritesPart S.writes S.prints file.now found.now text.now result sink.old sink.new }
+{
+    let written = sink.put(alloc, file, text);
+    if written != Status::Done {
+        return written;
+    }
+    tell(alloc, sink, found.cost, found.bound, "")
+}
+
+/// Prints what the proof of the part establishes, and returns how the run ends.
+fn tell<S: Sink>(alloc: Global, sink: &mut S, cost: i128, bound: i128, when: &str) -> Status
+    ensures severity { severity (status_for cost bound) ≤ severity result }
+    ensures told { IsSuccess result → TellsPart S.prints cost bound when.now result sink.old sink.new }
+{
+    let printed = match line_of(alloc, cost, bound, when) {
+        Ok(line) => sink.print(alloc, line.as_bytes()),
+        Err(_) => sink.refuse("standard output", PlannerError::OutOfMemory),
+    };
+    worse(status_of(cost, bound), printed)
 }
 
 /// The line with what the proof of the part establishes.

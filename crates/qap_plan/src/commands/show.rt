@@ -1,25 +1,30 @@
 //! The subcommand `show`: its command line and its run.
 
-ghost use Rattle.std.specs.Prelude.{IfOk};
+ghost use Rattle.std.specs.Prelude.{◌≡◌, IfOk, option_copied};
+ghost use Rattle.plan_answer.specs.Stated.{IsStatedText};
 ghost use Rattle.plan_file.specs.Tables.{HasSizes};
 ghost use Rattle.qap_cost.specs.Placement.{Completes};
-ghost use Rattle.qap_plan.specs.Picturing.{ShowsStated};
+ghost use Rattle.qap_io.specs.declared.status.Status.TheVariants.{Done};
+ghost use Rattle.qap_plan.specs.Answer.{stated_text as text_of_numbers};
+ghost use Rattle.qap_plan.specs.Outputs.{EndsWith, WritesFor};
+ghost use Rattle.qap_plan.specs.Picturing.{Pictures, ShowsStated};
+ghost use Rattle.qap_plan.specs.Showing.{Repeats, RepeatsNumbers, RepeatsPlan, RepeatsWords};
 
 use crate::commands::command_line::ignore_rest;
 use crate::error::PlannerError;
-use crate::files::outputs::{Inputs, Outputs, print_text, worse};
-use crate::files::refusal::{refuse, refuse_picture, refuse_restricted};
-use crate::input::instance_file::{inputs_of, instance_in, loaded_plan};
-use crate::input::judged_files::{bytes_of, refuse_answer};
+use crate::files::outputs::{Outputs, worse};
+use crate::files::refusal::{Misuse, Refusal, ended};
+use crate::files::sink::Sink;
+use crate::input::file_bytes::bytes_in;
+use crate::input::instance_file::{inputs_of, instance_in, is_plain, plan_in};
 use crate::output::answer::stated_text as numbers_text;
 use crate::output::picturing::{Drawn, captioned_picture, drawn_of};
 use clap::{Arg, ArgMatches, Command};
-use output_file::file_id;
 use plan_answer::{stated_line, stated_text};
-use plan_charge::is_restricting;
 use plan_check::{Answer, answer_to_instance, answer_to_plan};
 use plan_file::NamedProblem;
-use plan_input::is_plan;
+use plan_input::{Disk, Texts, is_plan};
+use qap_io::Status;
 use std::alloc::{AllocError, Global};
 use std::process::ExitCode;
 
@@ -89,75 +94,108 @@ pub fn show_request<'a>(found: &ArgMatches<'a>) -> Option<ShowRequest<'a>> {
 
 /// Shows the answer with the JSON in a file; its bound is reported as stated.
 pub fn run_show(rt: &HostRuntime, request: &ShowRequest<'_>) -> ExitCode {
-    if is_plan(request.file) {
-        show_plan(rt, request)
+    let (alloc, texts) = (rt.alloc(), Disk { files: rt });
+    let mut outputs = Outputs::new(rt);
+    let run = if is_plan(request.file) {
+        show_plan(alloc, &texts, &mut outputs, request)
     } else {
-        show_instance(rt, request)
-    }
+        show_instance(alloc, &texts, &mut outputs, request)
+    };
+    ended(rt, run)
 }
 
 /// Shows an answer to a plan.
-fn show_plan(rt: &HostRuntime, request: &ShowRequest<'_>) -> ExitCode {
-    let loaded = match loaded_plan(rt, request.file) {
-        Ok(loaded) => loaded,
-        Err(code) => return code,
-    };
-    if is_restricting(&loaded.charges, &loaded.forbidden) {
-        return refuse_restricted(rt, request.file, "show");
+pub(crate) fn show_plan<'a, D: Texts, S: Sink>(
+    alloc: Global,
+    texts: &D,
+    sink: &mut S,
+    request: &ShowRequest<'a>,
+) -> Result<Status, Refusal<'a>>
+    ensures { IfOk result (λ status. status ≡ Done → RepeatsPlan (D.holds texts.now) S.writes S.prints request.now sink.old sink.new) }
+{
+    let loaded = plan_in(alloc, texts, request.file)?;
+    if !is_plain(&loaded) {
+        return Err(Refusal::Misuse(request.file, Misuse::Restricted("show")));
     }
-    let text = match bytes_of(rt, request.answer) {
-        Ok(text) => text,
-        Err(code) => return code,
+    let text = bytes_in(alloc, texts, request.answer)?;
+    let problem = &loaded.problem;
+    let answer = match answer_to_plan(alloc, problem, &text) {
+        Ok(answer) => answer,
+        Err(error) => return Err(Refusal::Answer(request.answer, error)),
     };
-    match answer_to_plan(rt.alloc(), &loaded.problem, &text) {
-        Ok(answer) => {
-            let [plan, flows, distances, _] = inputs_of(rt, request.file, &loaded);
-            let inputs = [plan, flows, distances, file_id(rt, request.answer)];
-            tell_plan(
-                rt,
-                request,
-                &inputs,
-                &loaded.problem,
-                &answer,
-                &drawn_of(&loaded),
-            )
-        }
-        Err(error) => refuse_answer(rt, request.answer, &error),
+    let Ok(words) = plan_words(alloc, problem, &answer) else {
+        return Err(Refusal::File(request.answer, PlannerError::OutOfMemory));
+    };
+    let [plan, flows, distances, _] = inputs_of(request.file, &loaded);
+    let inputs = [plan, flows, distances, request.answer];
+    if let Err(status) = sink.open(alloc, &[request.out, request.svg], &inputs) {
+        return Err(Refusal::Reported(status));
     }
+    let drawn = drawn_of(&loaded);
+    Ok(tell_plan(alloc, sink, request, problem, &answer, &drawn, &words))
+}
+
+/// The words for an answer to a plan.
+fn plan_words(alloc: Global, problem: &NamedProblem, answer: &Answer) -> Result<Vec<u8>, AllocError>
+    requires sizes { HasSizes problem.now }
+    requires kept { Completes problem.now.fixed answer.now.permutation }
+    ensures { IfOk result (λ text. IsStatedText problem.now answer.now.permutation answer.now.cost answer.now.bound text.items) }
+{
+    let (cost, bound) = (answer.cost, answer.bound);
+    let text = stated_text(alloc, problem, &answer.permutation, cost, bound)?;
+    Ok(text)
 }
 
 /// Prints an answer to a plan, and writes it and its picture if requested.
-fn tell_plan(
-    rt: &HostRuntime,
+fn tell_plan<S: Sink>(
+    alloc: Global,
+    sink: &mut S,
     request: &ShowRequest<'_>,
-    inputs: &Inputs,
     problem: &NamedProblem,
     answer: &Answer,
     drawn: &Drawn<'_>,
-) -> ExitCode
+    words: &[u8],
+) -> Status
     requires sizes { HasSizes problem.now }
     requires kept { Completes problem.now.fixed answer.now.permutation }
+    ensures { result ≡ Done → Repeats S.writes S.prints request.now (Pictures problem.now answer.now.permutation answer.now.cost answer.now.bound) words.now sink.old sink.new }
 {
-    let Ok(text) = stated_text(
-        rt.alloc(),
-        problem,
-        &answer.permutation,
-        answer.cost,
-        answer.bound,
-    ) else {
-        return refuse(rt, request.answer, PlannerError::OutOfMemory);
+    let printed = sink.print(alloc, words);
+    let pictured = write_picture(alloc, sink, request.svg, problem, answer, drawn);
+    let written = write_words(alloc, sink, request.out, words);
+    worse(worse(printed, pictured), written)
+}
+
+/// Writes the picture, if it is requested.
+fn write_picture<S: Sink>(
+    alloc: Global,
+    sink: &mut S,
+    name: Option<&str>,
+    problem: &NamedProblem,
+    answer: &Answer,
+    drawn: &Drawn<'_>,
+) -> Status
+    requires sizes { HasSizes problem.now }
+    requires kept { Completes problem.now.fixed answer.now.permutation }
+    ensures { EndsWith result (WritesFor S.writes (option_copied name.entry) (Pictures problem.now answer.now.permutation answer.now.cost answer.now.bound) sink.old sink.new) }
+{
+    let Some(name) = name else {
+        return Status::Done;
     };
-    let mut outputs = match Outputs::open(rt, &[request.out, request.svg], inputs) {
-        Ok(outputs) => outputs,
-        Err(code) => return code,
-    };
-    let mut status = print_text(rt, &text);
-    if request.svg.is_some() {
-        let svg = stated_picture(rt.alloc(), problem, answer, drawn);
-        status = worse(status, outputs.put(rt, request.svg, svg));
+    match stated_picture(alloc, problem, answer, drawn) {
+        Ok(svg) => sink.put(alloc, name, &svg),
+        Err(error) => sink.refuse(name, error),
     }
-    status = worse(status, outputs.put(rt, request.out, Ok(text)));
-    ExitCode::from(status.code())
+}
+
+/// Writes the words, if that is requested.
+fn write_words<S: Sink>(alloc: Global, sink: &mut S, name: Option<&str>, words: &[u8]) -> Status
+    ensures { EndsWith result (WritesFor S.writes (option_copied name.entry) (λ t. t ≡ words.now) sink.old sink.new) }
+{
+    match name {
+        Some(name) => sink.put(alloc, name, words),
+        None => Status::Done,
+    }
 }
 
 /// The picture of an answer, with what is stated about its cost.
@@ -177,42 +215,46 @@ fn stated_picture(
 }
 
 /// Shows an answer to an instance.
-fn show_instance(rt: &HostRuntime, request: &ShowRequest<'_>) -> ExitCode {
+pub(crate) fn show_instance<'a, D: Texts, S: Sink>(
+    alloc: Global,
+    texts: &D,
+    sink: &mut S,
+    request: &ShowRequest<'a>,
+) -> Result<Status, Refusal<'a>>
+    ensures { IfOk result (λ status. status ≡ Done → RepeatsNumbers (D.holds texts.now) S.writes S.prints request.now sink.old sink.new) }
+{
     if request.svg.is_some() {
-        return refuse_picture(rt, request.file);
+        return Err(Refusal::Misuse(request.file, Misuse::Picture));
     }
-    let instance = match instance_in(rt, request.file, request.passes) {
-        Ok(instance) => instance,
-        Err(code) => return code,
-    };
-    let text = match bytes_of(rt, request.answer) {
-        Ok(text) => text,
-        Err(code) => return code,
-    };
-    let alloc = rt.alloc();
+    let instance = instance_in(alloc, texts, request.file, request.passes)?;
+    let text = bytes_in(alloc, texts, request.answer)?;
     let answer = match answer_to_instance(alloc, &instance, &text) {
         Ok(answer) => answer,
-        Err(error) => return refuse_answer(rt, request.answer, &error),
+        Err(error) => return Err(Refusal::Answer(request.answer, error)),
     };
-    match numbers_text(alloc, &answer.permutation, answer.cost, answer.bound) {
-        Ok(text) => tell(rt, request, text),
-        Err(_) => refuse(rt, request.answer, PlannerError::OutOfMemory),
+    let Ok(words) = instance_words(alloc, &answer) else {
+        return Err(Refusal::File(request.answer, PlannerError::OutOfMemory));
+    };
+    let inputs = [request.file, request.answer];
+    if let Err(status) = sink.open(alloc, &[request.out], &inputs) {
+        return Err(Refusal::Reported(status));
     }
+    Ok(tell(alloc, sink, request, &words))
 }
 
-/// Prints the text, and writes it to the requested file.
-fn tell(rt: &HostRuntime, request: &ShowRequest<'_>, text: Vec<u8>) -> ExitCode {
-    let inputs = [
-        file_id(rt, request.file),
-        file_id(rt, request.answer),
-        None,
-        None,
-    ];
-    let mut outputs = match Outputs::open(rt, &[request.out], &inputs) {
-        Ok(outputs) => outputs,
-        Err(code) => return code,
-    };
-    let printed = print_text(rt, &text);
-    let status = worse(printed, outputs.put(rt, request.out, Ok(text)));
-    ExitCode::from(status.code())
+/// The words for an answer to an instance.
+fn instance_words(alloc: Global, answer: &Answer) -> Result<Vec<u8>, AllocError>
+    ensures { IfOk result (λ text. text.items ≡ text_of_numbers answer.now.permutation answer.now.cost answer.now.bound) }
+{
+    let text = numbers_text(alloc, &answer.permutation, answer.cost, answer.bound)?;
+    Ok(text)
+}
+
+/// Prints the words, and writes them to the requested file.
+fn tell<S: Sink>(alloc: Global, sink: &mut S, request: &ShowRequest<'_>, words: &[u8]) -> Status
+    ensures { result ≡ Done → RepeatsWords S.writes S.prints request.now words.now sink.old sink.new }
+{
+    let printed = sink.print(alloc, words);
+    let written = write_words(alloc, sink, request.out, words);
+    worse(printed, written)
 }

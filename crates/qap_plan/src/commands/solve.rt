@@ -1,47 +1,102 @@
 //! A run on a plan that names its tables.
 
+ghost use Rattle.std.specs.Prelude.{IfOk, IfSome, length, ◌≡◌};
+ghost use Rattle.plan_file.specs.Tables.{HasSizes};
+ghost use Rattle.qap_plan.specs.Answered.{AnswersPlan, IsAnsweredPlan, TellsAnswer};
+ghost use Rattle.qap_plan.specs.Keeping.{IsKept};
 ghost use Rattle.qap_plan.specs.Options.{AreLimited};
+ghost use Rattle.qap_plan.specs.Outputs.{IsSuccess};
 
-use crate::commands::arranging::plan_named;
 use crate::commands::command_line::Request;
-use crate::commands::ending::{faulty_file, write_outputs};
+use crate::commands::compare::note_all;
+use crate::commands::ending::write_outputs;
 use crate::commands::solve_restricted::solve_restricted;
+use crate::error::PlannerError;
 use crate::files::outputs::Outputs;
-use crate::files::refusal::refuse;
-use crate::input::instance_file::{inputs_of, loaded_plan};
-use crate::input::layout_file::start_text;
+use crate::files::refusal::{Refusal, ended};
+use crate::files::sink::Sink;
+use crate::input::instance_file::{inputs_of, is_plain, plan_in};
+use crate::input::layout_file::start_in;
 use crate::output::plan_outcome::PlanOutcome;
 use crate::output::progress::{Teller, telling_of};
+use crate::search::keeper::Keeper;
+use crate::search::options::Options;
+use crate::search::planning::Planned;
 use crate::search::run_clock::RunClock;
-use plan_charge::is_restricting;
-use plan_input::{Loaded, notes_of};
-use qap_io::Counted;
+use crate::search::searching::search_keeping;
+use plan_file::NamedProblem;
+use plan_input::{Disk, Loaded, Texts};
+use qap_cost::Perm;
+use qap_io::Status;
+use std::alloc::{AllocError, Global};
 use std::process::ExitCode;
 use std::sync::Wait;
 use std::thread::Threads;
-use std::time::Clock;
+use std::time;
 
 /// Solves the problem of a plan. `system` provides threads, waiting and the time.
 pub fn solve_plan<T>(system: &T, rt: &HostRuntime, request: &Request<'_>) -> ExitCode
 where
-    T: Threads + Wait + Clock + Sync,
+    T: Threads + Wait + time::Clock + Sync,
     requires { AreLimited request.now.options }
 {
-    let elapsed = RunClock::new(system, request.options.milliseconds);
-    let loaded = match loaded_plan(rt, request.file) {
-        Ok(loaded) => loaded,
-        Err(code) => return code,
-    };
+    let clock = RunClock::new(system, request.options.milliseconds);
+    let telling = telling_of(rt, request.progress);
+    let teller = Teller::new(rt, &clock, telling, request.stop_file);
+    let mut outputs = Outputs::new(rt);
+    let texts = Disk { files: rt };
+    let run = answer_plan(system, rt.alloc(), &texts, &mut outputs, request, &teller);
+    ended(rt, run)
+}
+
+/// The same with texts from anywhere, and to anywhere.
+pub(crate) fn answer_plan<'a, T, D, S, K>(
+    system: &T,
+    alloc: Global,
+    texts: &D,
+    sink: &mut S,
+    request: &Request<'a>,
+    keeper: &K,
+) -> Result<Status, Refusal<'a>>
+where
+    T: Threads + Wait + time::Clock + Sync,
+    D: Texts,
+    S: Sink,
+    K: Keeper,
+    requires { AreLimited request.now.options }
+    ensures { IfOk result (λ status. IsSuccess status → AnswersPlan (D.holds texts.now) S.writes S.prints request.now status sink.old sink.new) }
+{
+    let loaded = plan_in(alloc, texts, request.file)?;
     if !request.quiet {
-        tell_notes(rt, &loaded);
+        note_all(alloc, sink, &loaded);
     }
-    if is_restricting(&loaded.charges, &loaded.forbidden) {
-        return solve_restricted(system, rt, request, &loaded, &elapsed);
+    if is_plain(&loaded) {
+        return solve_named(system, alloc, texts, sink, request, &loaded, keeper);
     }
-    let start = match start_text(rt, &loaded.problem, request.start) {
-        Ok(start) => start,
-        Err(code) => return code,
-    };
+    solve_restricted(system, alloc, texts, sink, request, &loaded, keeper)
+}
+
+/// Solves the problem of a plan without costs of places or forbidden places.
+fn solve_named<'a, T, D, S, K>(
+    system: &T,
+    alloc: Global,
+    texts: &D,
+    sink: &mut S,
+    request: &Request<'a>,
+    loaded: &Loaded,
+    keeper: &K,
+) -> Result<Status, Refusal<'a>>
+where
+    T: Threads + Wait + time::Clock + Sync,
+    D: Texts,
+    S: Sink,
+    K: Keeper,
+    requires limited { AreLimited request.now.options }
+    requires sizes { HasSizes loaded.now.problem }
+    ensures { IfOk result (λ status. IsSuccess status → IsAnsweredPlan (D.holds texts.now) S.writes S.prints request.now loaded.now.problem status sink.old sink.new) }
+{
+    let problem = &loaded.problem;
+    let start = start_in(alloc, texts, problem, request.start)?;
     let names = [
         request.out,
         request.json,
@@ -50,51 +105,77 @@ where
         request.report,
         request.proof,
     ];
-    let outputs = match Outputs::open(rt, &names, &inputs_of(rt, request.file, &loaded)) {
-        Ok(outputs) => outputs,
-        Err(code) => return code,
+    if let Err(status) = sink.open(alloc, &names, &inputs_of(request.file, loaded)) {
+        return Err(Refusal::Reported(status));
+    }
+    match search_and_write(system, alloc, sink, request, loaded, &start, keeper) {
+        Ok(status) => Ok(status),
+        Err(_) => Err(Refusal::File(request.file, PlannerError::OutOfMemory)),
+    }
+}
+
+/// Searches from a start, if there is one, and writes what that finds.
+fn search_and_write<T, S, K>(
+    system: &T,
+    alloc: Global,
+    sink: &mut S,
+    request: &Request<'_>,
+    loaded: &Loaded,
+    start: &Option<Perm>,
+    keeper: &K,
+) -> Result<Status, AllocError>
+where
+    T: Threads + Wait + time::Clock + Sync,
+    S: Sink,
+    K: Keeper,
+    requires limited { AreLimited request.now.options }
+    requires sizes { HasSizes loaded.now.problem }
+    requires start { IfSome start.now (λ p. length p ≡ loaded.now.problem.instance.size) }
+    ensures { IfOk result (λ status. IsSuccess status → TellsAnswer S.writes S.prints request.now loaded.now.problem start.now status sink.old sink.new) }
+{
+    let (problem, options) = (&loaded.problem, &request.options);
+    let answer = arranged(system, alloc, problem, start, options, keeper)?;
+    let found = PlanOutcome {
+        loaded,
+        start,
+        answer: &answer,
+        file: request.file,
+        milliseconds: keeper.now(),
     };
-    let problem = &loaded.problem;
-    let teller = Teller::new(
-        rt,
-        &elapsed,
-        telling_of(rt, request.progress),
-        request.stop_file,
-    );
-    let alloc = rt.alloc();
-    let text = &mut Counted::new(Vec::new(alloc));
-    let options = &request.options;
-    let mut reader = reader_of(&start);
-    let answer = plan_named(system, alloc, problem, &mut reader, text, options, &teller);
-    teller.finish();
-    match answer {
-        Ok(answer) => {
-            let found = PlanOutcome {
-                loaded: &loaded,
-                start: &start,
-                answer: &answer,
-                file: request.file,
-                milliseconds: elapsed.milliseconds(),
-            };
-            ExitCode::from(write_outputs(rt, request, outputs, &found).code())
-        }
-        Err(error) => refuse(rt, faulty_file(request, error), error),
-    }
+    Ok(write_outputs(alloc, sink, request, &found))
 }
 
-/// A reader of the text of a start, if there is one.
-fn reader_of(start: &Option<Vec<u8>>) -> Option<Counted<&[u8]>> {
+/// What the search of the arrangements that keep what is fixed finds, from a start if there is one.
+fn arranged<T, K>(
+    system: &T,
+    alloc: Global,
+    problem: &NamedProblem,
+    start: &Option<Perm>,
+    options: &Options,
+    keeper: &K,
+) -> Result<Planned, AllocError>
+where
+    T: Threads + Wait + time::Clock + Sync,
+    K: Keeper,
+    requires limited { AreLimited options.now }
+    requires sizes { HasSizes problem.now }
+    requires start { IfSome start.now (λ p. length p ≡ problem.now.instance.size) }
+    ensures { IfOk result (λ x. IsKept problem.now.instance problem.now.fixed start.now x.permutation x.cost x.bound) }
+{
+    let (instance, fixed) = (&problem.instance, &problem.fixed);
+    let first = copy_of(start)?;
+    let found = search_keeping(system, alloc, instance, fixed, first, options, keeper);
+    keeper.finish();
+    let found = found?;
+    Ok(found)
+}
+
+/// The same arrangement, if there is one.
+pub(crate) fn copy_of(start: &Option<Perm>) -> Result<Option<Perm>, AllocError>
+    ensures { IfOk result (λ copy. copy ≡ start.now) }
+{
     match start {
-        Some(text) => Some(Counted::new(text.as_slice())),
-        None => None,
-    }
-}
-
-/// Says on standard error what the tables were understood as, and what may not be meant.
-pub(crate) fn tell_notes(rt: &HostRuntime, loaded: &Loaded) {
-    if let Ok(notes) = notes_of(rt.alloc(), loaded) {
-        for note in &notes {
-            let _ = rt.eprintln(format_args!("{note}"));
-        }
+        Some(start) => Ok(Some(start.copy()?)),
+        None => Ok(None),
     }
 }

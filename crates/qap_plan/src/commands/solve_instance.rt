@@ -1,128 +1,151 @@
 //! A run on an instance without names.
 
+ghost use Rattle.std.specs.Prelude.{IfOk, option_copied, option_map};
+ghost use Rattle.qap_plan.specs.Answered.{AnswersInstance, HasFoundIn};
 ghost use Rattle.qap_plan.specs.Options.{AreLimited};
+ghost use Rattle.qap_plan.specs.Outputs.{IsSuccess};
+ghost use Rattle.qap_plan.specs.Sources.{IsGivenIn};
+ghost use Rattle.qap_plan.specs.Starting.{IsReaderOf};
 
 use crate::commands::answering::plan_stream;
 use crate::commands::command_line::Request;
 use crate::commands::ending::{faulty_file, write_outputs};
 use crate::error::PlannerError;
-use crate::files::outputs::{Outputs, one_input};
-use crate::files::refusal::{refuse, refuse_picture};
+use crate::files::outputs::Outputs;
+use crate::files::refusal::{Misuse, Refusal, ended};
+use crate::files::sink::Sink;
+use crate::input::file_bytes::bytes_in;
 use crate::output::found_outcome::FoundOutcome;
 use crate::output::progress::{Teller, telling_of};
 use crate::search::keeper::Keeper;
 use crate::search::planning::Planned;
 use crate::search::run_clock::RunClock;
+use plan_input::{Disk, Texts};
 use qap_io::{Counted, Status};
 use std::alloc::Global;
-use std::fs;
-use std::fs::Files;
-use std::io::Read;
 use std::process::ExitCode;
 use std::sync::Wait;
 use std::thread::Threads;
-use std::time::Clock;
+use std::time;
 
 /// Solves an instance. `system` provides threads, waiting and the time.
 pub fn solve<T>(system: &T, rt: &HostRuntime, request: &Request<'_>) -> ExitCode
 where
-    T: Threads + Wait + Clock + Sync,
+    T: Threads + Wait + time::Clock + Sync,
     requires { AreLimited request.now.options }
 {
+    let clock = RunClock::new(system, request.options.milliseconds);
+    let telling = telling_of(rt, request.progress);
+    let teller = Teller::new(rt, &clock, telling, request.stop_file);
+    let mut outputs = Outputs::new(rt);
+    let texts = Disk { files: rt };
+    let run = answer_instance(system, rt.alloc(), &texts, &mut outputs, request, &teller);
+    ended(rt, run)
+}
+
+/// The same with texts from anywhere, and to anywhere.
+pub(crate) fn answer_instance<'a, T, D, S, K>(
+    system: &T,
+    alloc: Global,
+    texts: &D,
+    sink: &mut S,
+    request: &Request<'a>,
+    keeper: &K,
+) -> Result<Status, Refusal<'a>>
+where
+    T: Threads + Wait + time::Clock + Sync,
+    D: Texts,
+    S: Sink,
+    K: Keeper,
+    requires { AreLimited request.now.options }
+    ensures { IfOk result (λ status. IsSuccess status → AnswersInstance (D.holds texts.now) S.writes S.prints request.now status sink.old sink.new) }
+{
+    if let Some(misuse) = misuse_of(request) {
+        return Err(Refusal::Misuse(request.file, misuse));
+    }
+    let bytes = bytes_in(alloc, texts, request.file)?;
+    let start = start_in(alloc, texts, request.start)?;
+    let names = [request.out, request.json, request.proof];
+    if let Err(status) = sink.open(alloc, &names, &[request.file]) {
+        return Err(Refusal::Reported(status));
+    }
+    let answer = match found(system, alloc, request, &bytes, &start, keeper) {
+        Ok(answer) => answer,
+        Err(error) => return Err(Refusal::File(faulty_file(request, error), error)),
+    };
+    let found = FoundOutcome {
+        answer: &answer,
+        milliseconds: keeper.now(),
+    };
+    Ok(write_outputs(alloc, sink, request, &found))
+}
+
+/// What is requested of an instance that only a plan can have.
+fn misuse_of(request: &Request<'_>) -> Option<Misuse> {
     if request.svg.is_some() {
-        return refuse_picture(rt, request.file);
+        return Some(Misuse::Picture);
     }
     if request.report.is_some() {
-        return refuse_report(rt, request.file);
+        return Some(Misuse::Report);
     }
     if request.csv.is_some() {
-        return refuse_table(rt, request.file);
+        return Some(Misuse::Table);
     }
-    let Ok(file) = fs::open(rt, request.file) else {
-        return refuse(rt, request.file, PlannerError::Device);
-    };
-    let start = match start_of(rt, request) {
-        Ok(start) => start,
-        Err(name) => return refuse(rt, name, PlannerError::Device),
-    };
-    let names = [request.out, request.json, request.proof];
-    let outputs = match Outputs::open(rt, &names, &one_input(rt, request.file)) {
-        Ok(outputs) => outputs,
-        Err(code) => return code,
-    };
-    let elapsed = RunClock::new(system, request.options.milliseconds);
-    let teller = Teller::new(
-        rt,
-        &elapsed,
-        telling_of(rt, request.progress),
-        request.stop_file,
-    );
-    let answer = answer_to(system, rt.alloc(), request, &teller, file, start);
-    teller.finish();
-    match answer {
-        Ok(answer) => {
-            let found = FoundOutcome {
-                answer: &answer,
-                milliseconds: elapsed.milliseconds(),
-            };
-            ExitCode::from(write_outputs(rt, request, outputs, &found).code())
-        }
-        Err(error) => refuse(rt, faulty_file(request, error), error),
+    None
+}
+
+/// The bytes of the file of a start, if one is named.
+fn start_in<'a, D: Texts>(
+    alloc: Global,
+    texts: &D,
+    file: Option<&'a str>,
+) -> Result<Option<Vec<u8>>, Refusal<'a>>
+    ensures { IfOk result (λ given. IsGivenIn (D.holds texts.now) (option_copied file.entry) (option_map (λ v. v.items) given)) }
+{
+    match file {
+        Some(file) => Ok(Some(bytes_in(alloc, texts, file)?)),
+        None => Ok(None),
     }
 }
 
-/// Says that there is no report on an instance without names.
-fn refuse_report(rt: &HostRuntime, file: &str) -> ExitCode {
-    let _ = rt.eprintln(format_args!(
-        "error: {file}: a report needs a plan, a file whose name ends in .toml: remove --report, or write one"
-    ));
-    ExitCode::from(Status::Usage.code())
-}
-
-/// Reports that an instance without names has no table of places.
-fn refuse_table(rt: &HostRuntime, file: &str) -> ExitCode {
-    let _ = rt.eprintln(format_args!(
-        "error: {file}: a table of places needs a plan, a file whose name ends in .toml: remove --csv, or write one"
-    ));
-    ExitCode::from(Status::Usage.code())
-}
-
-/// The file of the requested start; its name, if it cannot be opened.
-pub(crate) fn start_of<'a, R: Files>(
-    rt: &R,
-    request: &Request<'a>,
-) -> Result<Option<Counted<R::File>>, &'a str> {
-    let Some(name) = request.start else {
-        return Ok(None);
-    };
-    match fs::open(rt, name) {
-        Ok(file) => Ok(Some(Counted::new(file))),
-        Err(_) => Err(name),
-    }
-}
-
-/// Solves the instance of a file, from the start of another one.
-fn answer_to<T, K, R>(
+/// What the search of an instance finds, from a start if there is one.
+fn found<T, K>(
     system: &T,
     alloc: Global,
     request: &Request<'_>,
+    instance: &[u8],
+    start: &Option<Vec<u8>>,
     keeper: &K,
-    file: R,
-    mut start: Option<Counted<R>>,
 ) -> Result<Planned, PlannerError>
 where
-    T: Threads + Wait + Clock + Sync,
+    T: Threads + Wait + time::Clock + Sync,
     K: Keeper,
-    R: Read + Drop,
     requires { AreLimited request.now.options }
+    ensures { IfOk result (HasFoundIn instance.now (option_map (λ v. v.items) start.now) request.now.options.passes) }
 {
-    plan_stream(
+    let mut reader = reader_of(start);
+    let answer = plan_stream(
         system,
         alloc,
-        &mut Counted::new(file),
-        &mut start,
+        &mut Counted::new(instance),
+        &mut reader,
         &mut Counted::new(Vec::new(alloc)),
         &request.options,
         keeper,
-    )
+    );
+    keeper.finish();
+    match answer {
+        Ok(answer) => Ok(answer),
+        Err(error) => Err(error.in_memory()),
+    }
+}
+
+/// A reader of the text of a start, if there is one.
+fn reader_of(start: &Option<Vec<u8>>) -> Option<Counted<&[u8]>>
+    ensures { IsReaderOf (option_map (λ v. v.items) start.now) result }
+{
+    match start {
+        Some(text) => Some(Counted::new(text.as_slice())),
+        None => None,
+    }
 }

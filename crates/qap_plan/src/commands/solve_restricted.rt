@@ -1,54 +1,61 @@
 //! A run on a plan with costs of places or forbidden places.
 
+ghost use Rattle.std.specs.Prelude.{IfOk, option_copied};
 ghost use Rattle.plan_charge.specs.Charges.{AreCharges};
 ghost use Rattle.plan_charge.specs.Forbidden.{AreForbidden};
 ghost use Rattle.plan_file.specs.Tables.{HasSizes};
+ghost use Rattle.qap_plan.specs.Answered.{IsAnsweredCharged, TellsAnswerCharged};
+ghost use Rattle.qap_plan.specs.Begun.{IsArrangementIn, IsStartIn};
+ghost use Rattle.qap_plan.specs.ChargedAnswer.{IsChargedAnswer};
 ghost use Rattle.qap_plan.specs.Options.{AreLimited};
+ghost use Rattle.qap_plan.specs.Outputs.{IsSuccess};
 
-use crate::commands::charged_answer::{ChargedProblem, charged_answer};
+use crate::commands::charged_answer::{ChargedAnswer, ChargedProblem, charged_answer};
 use crate::commands::charged_outcome::ChargedOutcome;
 use crate::commands::command_line::Request;
 use crate::commands::ending::{faulty_file, write_outputs};
 use crate::error::PlannerError;
-use crate::files::outputs::Outputs;
-use crate::files::refusal::{refuse, refuse_restricted};
+use crate::files::refusal::{Misuse, Refusal};
+use crate::files::sink::Sink;
+use crate::input::file_bytes::text_in;
 use crate::input::instance_file::inputs_of;
-use crate::input::judged_files::bytes_of;
 use crate::input::layout_file::layout_in;
-use crate::output::progress::{Teller, telling_of};
-use crate::search::run_clock::RunClock;
+use crate::search::keeper::Keeper;
 use plan_file::NamedProblem;
-use plan_input::Loaded;
-use plan_table::{decode, is_layout};
+use plan_input::{Loaded, Texts};
+use plan_table::is_layout;
 use qap_cost::Perm;
 use qap_io::Status;
-use std::process::ExitCode;
+use std::alloc::Global;
 use std::sync::Wait;
 use std::thread::Threads;
-use std::time::Clock;
+use std::time;
 
 /// Solves such a plan. `system` provides threads, waiting and the time.
-pub fn solve_restricted<T>(
+pub fn solve_restricted<'a, T, D, S, K>(
     system: &T,
-    rt: &HostRuntime,
-    request: &Request<'_>,
+    alloc: Global,
+    texts: &D,
+    sink: &mut S,
+    request: &Request<'a>,
     loaded: &Loaded,
-    elapsed: &RunClock<'_, T>,
-) -> ExitCode
+    keeper: &K,
+) -> Result<Status, Refusal<'a>>
 where
-    T: Threads + Wait + Clock + Sync,
+    T: Threads + Wait + time::Clock + Sync,
+    D: Texts,
+    S: Sink,
+    K: Keeper,
     requires limited { AreLimited request.now.options }
     requires sizes { HasSizes loaded.now.problem }
     requires charges { AreCharges loaded.now.problem.instance.size loaded.now.charges }
     requires forbidden { AreForbidden loaded.now.problem.instance.size loaded.now.forbidden }
+    ensures { IfOk result (λ status. IsSuccess status → IsAnsweredCharged (D.holds texts.now) S.writes S.prints request.now loaded.now status sink.old sink.new) }
 {
     if request.report.is_some() {
-        return refuse_restricted(rt, request.file, "--report");
+        return Err(Refusal::Misuse(request.file, Misuse::Restricted("--report")));
     }
-    let start = match start_of(rt, &loaded.problem, request.start) {
-        Ok(start) => start,
-        Err(code) => return code,
-    };
+    let start = start_in(alloc, texts, &loaded.problem, request.start)?;
     let names = [
         request.out,
         request.json,
@@ -56,63 +63,102 @@ where
         request.svg,
         request.proof,
     ];
-    let outputs = match Outputs::open(rt, &names, &inputs_of(rt, request.file, loaded)) {
-        Ok(outputs) => outputs,
-        Err(code) => return code,
+    if let Err(status) = sink.open(alloc, &names, &inputs_of(request.file, loaded)) {
+        return Err(Refusal::Reported(status));
+    }
+    match search_and_write(system, alloc, sink, request, loaded, start, keeper) {
+        Ok(status) => Ok(status),
+        Err(error) => Err(Refusal::File(faulty_file(request, error), error)),
+    }
+}
+
+/// Searches from a start, if there is one, and writes what that finds.
+fn search_and_write<T, S, K>(
+    system: &T,
+    alloc: Global,
+    sink: &mut S,
+    request: &Request<'_>,
+    loaded: &Loaded,
+    start: Option<Perm>,
+    keeper: &K,
+) -> Result<Status, PlannerError>
+where
+    T: Threads + Wait + time::Clock + Sync,
+    S: Sink,
+    K: Keeper,
+    requires limited { AreLimited request.now.options }
+    requires sizes { HasSizes loaded.now.problem }
+    requires charges { AreCharges loaded.now.problem.instance.size loaded.now.charges }
+    requires forbidden { AreForbidden loaded.now.problem.instance.size loaded.now.forbidden }
+    ensures { IfOk result (λ status. IsSuccess status → TellsAnswerCharged S.writes S.prints request.now loaded.now start status sink.old sink.new) }
+{
+    let answer = charged(system, alloc, request, loaded, start, keeper)?;
+    let found = ChargedOutcome {
+        loaded,
+        answer: &answer,
+        milliseconds: keeper.now(),
     };
-    let teller = Teller::new(
-        rt,
-        elapsed,
-        telling_of(rt, request.progress),
-        request.stop_file,
-    );
+    Ok(write_outputs(alloc, sink, request, &found))
+}
+
+/// What the search from a start finds, if there is one.
+fn charged<T, K>(
+    system: &T,
+    alloc: Global,
+    request: &Request<'_>,
+    loaded: &Loaded,
+    start: Option<Perm>,
+    keeper: &K,
+) -> Result<ChargedAnswer, PlannerError>
+where
+    T: Threads + Wait + time::Clock + Sync,
+    K: Keeper,
+    requires limited { AreLimited request.now.options }
+    requires sizes { HasSizes loaded.now.problem }
+    requires charges { AreCharges loaded.now.problem.instance.size loaded.now.charges }
+    requires forbidden { AreForbidden loaded.now.problem.instance.size loaded.now.forbidden }
+    ensures { IfOk result (IsChargedAnswer loaded.now.problem loaded.now.charges loaded.now.forbidden start) }
+{
     let charged = ChargedProblem {
         problem: &loaded.problem,
         charges: &loaded.charges,
         forbidden: &loaded.forbidden,
     };
-    let options = &request.options;
-    let answer = charged_answer(system, rt.alloc(), &charged, start, options, &teller);
-    teller.finish();
-    match answer {
-        Ok(answer) => {
-            let found = ChargedOutcome {
-                loaded,
-                answer: &answer,
-                milliseconds: elapsed.milliseconds(),
-            };
-            ExitCode::from(write_outputs(rt, request, outputs, &found).code())
-        }
-        Err(error) => refuse(rt, faulty_file(request, error), error),
-    }
+    let answer = charged_answer(system, alloc, &charged, start, &request.options, keeper);
+    keeper.finish();
+    answer
 }
 
 /// The arrangement with which the search begins, if a file is named: a list of departments and places.
-fn start_of(
-    rt: &HostRuntime,
+fn start_in<'a, D: Texts>(
+    alloc: Global,
+    texts: &D,
     problem: &NamedProblem,
-    file: Option<&str>,
-) -> Result<Option<Perm>, ExitCode>
+    file: Option<&'a str>,
+) -> Result<Option<Perm>, Refusal<'a>>
     requires { HasSizes problem.now }
+    ensures { IfOk result (IsStartIn (D.holds texts.now) problem.now (option_copied file.entry)) }
 {
-    let Some(file) = file else {
-        return Ok(None);
-    };
-    let bytes = bytes_of(rt, file)?;
-    let Ok(decoded) = decode(rt.alloc(), bytes) else {
-        return Err(refuse(rt, file, PlannerError::OutOfMemory));
-    };
-    match is_layout(rt.alloc(), &decoded.text) {
-        Ok(true) => Ok(Some(layout_in(rt, problem, file, &decoded.text)?)),
-        Ok(false) => Err(refuse_start(rt, file)),
-        Err(_) => Err(refuse(rt, file, PlannerError::OutOfMemory)),
+    match file {
+        Some(file) => Ok(Some(listed_in(alloc, texts, problem, file)?)),
+        None => Ok(None),
     }
 }
 
-/// Reports that the start of such a plan is a table.
-fn refuse_start(rt: &HostRuntime, file: &str) -> ExitCode {
-    let _ = rt.eprintln(format_args!(
-        "error: {file}: a plan with costs of places, [forbidden] or [allowed] starts from a table with the columns department and place: name one, as --csv writes it"
-    ));
-    ExitCode::from(Status::Refused.code())
+/// The arrangement that a file lists.
+fn listed_in<'a, D: Texts>(
+    alloc: Global,
+    texts: &D,
+    problem: &NamedProblem,
+    file: &'a str,
+) -> Result<Perm, Refusal<'a>>
+    requires { HasSizes problem.now }
+    ensures { IfOk result (IsArrangementIn (D.holds texts.now) problem.now file.now) }
+{
+    let text = text_in(alloc, texts, file)?;
+    match is_layout(alloc, &text) {
+        Ok(true) => layout_in(alloc, problem, file, &text),
+        Ok(false) => Err(Refusal::NoTable(file)),
+        Err(_) => Err(Refusal::File(file, PlannerError::OutOfMemory)),
+    }
 }

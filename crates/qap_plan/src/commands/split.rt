@@ -1,30 +1,39 @@
 //! The subcommand `split`: its command line and its run.
 
-ghost use Rattle.std.specs.Prelude.{IfOk, IfSome};
+ghost use Rattle.std.specs.Prelude.{IfOk, IfSome, length, option_copied, string_bytes, ◌≡◌};
 ghost use Rattle.qap_cost.specs.Objective.{Permutes};
 ghost use Rattle.qap_plan.specs.Options.{AreLimited};
+ghost use Rattle.qap_plan.specs.Outputs.{EndsWith, IsSuccess};
+ghost use Rattle.qap_plan.specs.PartFiles.{ArePartFiles, AreTextsOf, BeginsIn, IsFileIn, SplitsSearched, SplitsUp, TellsSplit, WritesParts, split_line, split_status};
+ghost use Rattle.qap_plan.specs.Starting.{IsSolutionIn};
+ghost use Rattle.qap_proof.specs.Claim.{IsRoot};
+ghost use Rattle.qap_text.specs.WrittenSolution.{solution_text};
 
 use crate::commands::command_line::{ignore_rest, time_limit, with_improvement, with_start};
+use crate::commands::solve::copy_of;
 use crate::error::PlannerError;
-use crate::files::outputs::{Outputs, print_text, worse};
-use crate::files::refusal::{refuse, refuse_with};
-use crate::input::instance_file::searched_in;
-use crate::input::starting::read_start;
+use crate::files::outputs::{Outputs, worse};
+use crate::files::refusal::{Refusal, ended};
+use crate::files::sink::Sink;
+use crate::input::file_bytes::bytes_in;
+use crate::input::instance_file::{Searched, searched_in};
+use crate::input::starting::permutation_in;
 use crate::output::node_lines::lines_of_parts;
 use crate::output::proof_file::text_of_proof;
+use crate::search::keeper::Keeper;
 use crate::search::options::{MAX_NODES, Options};
 use crate::search::run_clock::RunClock;
 use crate::search::splitting::{Skeleton, split_up};
 use clap::{Arg, ArgMatches, Command, value_parser};
+use plan_input::{Disk, Texts};
 use qap_cost::{Instance, Perm};
 use qap_io::{Counted, Status};
 use qap_text::write_solution;
 use std::alloc::{AllocError, Global};
-use std::fs;
 use std::process::ExitCode;
 use std::sync::Wait;
 use std::thread::Threads;
-use std::time::Clock;
+use std::time;
 
 /// The greatest number of parts that may be requested.
 const MAX_PARTS: u64 = 1 << 20;
@@ -111,72 +120,132 @@ pub fn split_request<'a>(found: &ArgMatches<'a>) -> Option<SplitRequest<'a>>
 /// into a folder. `system` provides threads, waiting and the time.
 pub fn run_split<T>(system: &T, rt: &HostRuntime, request: &SplitRequest<'_>) -> ExitCode
 where
-    T: Threads + Wait + Clock + Sync,
+    T: Threads + Wait + time::Clock + Sync,
     requires { AreLimited request.now.options }
 {
-    let elapsed = RunClock::new(system, request.options.milliseconds);
-    let mut searched = match searched_in(rt, request.file, request.options.passes) {
-        Ok(searched) => searched,
-        Err(code) => return code,
+    let clock = RunClock::new(system, request.options.milliseconds);
+    let mut outputs = Outputs::new(rt);
+    let texts = Disk { files: rt };
+    let run = split(system, rt.alloc(), &texts, &mut outputs, request, &clock);
+    ended(rt, run)
+}
+
+/// The same with texts from anywhere, and to anywhere.
+pub(crate) fn split<'a, T, D, S, K>(
+    system: &T,
+    alloc: Global,
+    texts: &D,
+    sink: &mut S,
+    request: &SplitRequest<'a>,
+    keeper: &K,
+) -> Result<Status, Refusal<'a>>
+where
+    T: Threads + Wait + time::Clock + Sync,
+    D: Texts,
+    S: Sink,
+    K: Keeper,
+    requires { AreLimited request.now.options }
+    ensures { IfOk result (λ status. IsSuccess status → SplitsUp (D.holds texts.now) S.writes S.prints request.now status sink.old sink.new) }
+{
+    let searched = searched_in(alloc, texts, request.file, request.options.passes)?;
+    let start = start_of(alloc, texts, request, &searched)?;
+    let Ok(names) = PartFiles::new(alloc, request.folder) else {
+        return Err(Refusal::File(request.folder, PlannerError::OutOfMemory));
     };
-    let start = match start_of(rt, request, &searched.instance) {
-        Ok(Some(start)) => Some(start),
-        Ok(None) => searched.start.take(),
-        Err(code) => return code,
-    };
-    let Ok(names) = Names::new(rt.alloc(), request.folder) else {
-        return refuse(rt, request.folder, PlannerError::OutOfMemory);
-    };
-    if fs::create_dir_all(rt, request.folder).is_err() {
-        return refuse(rt, request.folder, PlannerError::Device);
+    if let Err(status) = sink.make_folder(request.folder) {
+        return Err(Refusal::Reported(status));
     }
-    let outputs = match Outputs::open(rt, &names.all(), &searched.inputs) {
-        Ok(outputs) => outputs,
-        Err(code) => return code,
-    };
-    let alloc = rt.alloc();
-    let options = &request.options;
-    let wanted = request.parts as usize;
-    match split_up(system, alloc, &searched, start, options, wanted, &elapsed) {
-        Ok(skeleton) => finish(rt, request, outputs, &names, &skeleton),
-        Err(error) => refuse(rt, request.file, error),
+    if let Err(status) = sink.open(alloc, &names.all(), &searched.inputs(request.file)) {
+        return Err(Refusal::Reported(status));
+    }
+    match split_and_write(
+        system, alloc, sink, request, &names, &searched, start, keeper,
+    ) {
+        Ok(status) => Ok(status),
+        Err(error) => Err(Refusal::File(request.file, error)),
     }
 }
 
-/// The requested initial permutation; why there is none is reported on standard error.
-fn start_of(
-    rt: &HostRuntime,
+/// Splits the search of what was read, from a start or any permutation, and writes the parts.
+fn split_and_write<T, S, K>(
+    system: &T,
+    alloc: Global,
+    sink: &mut S,
     request: &SplitRequest<'_>,
-    instance: &Instance,
-) -> Result<Option<Perm>, ExitCode>
-    ensures { IfOk result (λ start. IfSome start (Permutes instance.now)) }
+    names: &PartFiles,
+    searched: &Searched,
+    start: Option<Perm>,
+    keeper: &K,
+) -> Result<Status, PlannerError>
+where
+    T: Threads + Wait + time::Clock + Sync,
+    S: Sink,
+    K: Keeper,
+    requires limited { AreLimited request.now.options }
+    requires root { IsRoot searched.now.instance.size searched.now.root }
+    requires start { IfSome start (Permutes searched.now.instance) }
+    ensures { IfOk result (λ status. IsSuccess status → SplitsSearched S.writes S.prints request.now names.now searched.now start status sink.old sink.new) }
 {
-    let Some(name) = request.start else {
-        return Ok(None);
-    };
-    let Ok(file) = fs::open(rt, name) else {
-        return Err(refuse(rt, name, PlannerError::Device));
-    };
-    match read_start(rt.alloc(), &mut Some(Counted::new(file)), instance) {
+    let options = &request.options;
+    let wanted = request.parts as usize;
+    let skeleton = split_up(system, alloc, searched, start, options, wanted, keeper)?;
+    Ok(write_parts(alloc, sink, request, names, &skeleton))
+}
+
+/// The permutation with which the search begins: the solution in the file that is named, or else the plan's own, if it
+/// has one.
+fn start_of<'a, D: Texts>(
+    alloc: Global,
+    texts: &D,
+    request: &SplitRequest<'a>,
+    searched: &Searched,
+) -> Result<Option<Perm>, Refusal<'a>>
+    requires { IfSome searched.now.start (Permutes searched.now.instance) }
+    ensures permutes { IfOk result (λ start. IfSome start (Permutes searched.now.instance)) }
+    ensures begins { IfOk result (BeginsIn (D.holds texts.now) (option_copied request.now.start) searched.now.instance) }
+{
+    if let Some(file) = request.start {
+        return Ok(Some(start_in(alloc, texts, file, &searched.instance)?));
+    }
+    match copy_of(&searched.start) {
         Ok(start) => Ok(start),
-        Err(error) => Err(refuse(rt, name, error)),
+        Err(_) => Err(Refusal::File(request.file, PlannerError::OutOfMemory)),
+    }
+}
+
+/// The permutation of the solution in a file.
+fn start_in<'a, D: Texts>(
+    alloc: Global,
+    texts: &D,
+    file: &'a str,
+    instance: &Instance,
+) -> Result<Perm, Refusal<'a>>
+    ensures permutes { IfOk result (Permutes instance.now) }
+    ensures start { IfOk result (IsSolutionIn (D.holds texts.now) file.now instance.now) }
+{
+    let bytes = bytes_in(alloc, texts, file)?;
+    match permutation_in(alloc, &bytes, instance) {
+        Ok(start) => Ok(start),
+        Err(error) => Err(Refusal::File(file, error)),
     }
 }
 
 /// The files that are written into the folder.
 #[derive(Drop)]
-struct Names {
-    proof: String,
-    best: String,
-    parts: String,
+pub struct PartFiles {
+    pub proof: String,
+    pub best: String,
+    pub parts: String,
 }
 
-impl Names {
-    fn new(alloc: Global, folder: &str) -> Result<Names, AllocError> {
-        Ok(Names {
-            proof: format!(in alloc; "{folder}/skeleton.proof")?,
-            best: format!(in alloc; "{folder}/best.sln")?,
-            parts: format!(in alloc; "{folder}/parts.txt")?,
+impl PartFiles {
+    fn new(alloc: Global, folder: &str) -> Result<PartFiles, AllocError>
+        ensures { IfOk result (ArePartFiles folder.now) }
+    {
+        Ok(PartFiles {
+            proof: name_in(alloc, folder, "skeleton.proof")?,
+            best: name_in(alloc, folder, "best.sln")?,
+            parts: name_in(alloc, folder, "parts.txt")?,
         })
     }
 
@@ -189,35 +258,88 @@ impl Names {
     }
 }
 
-/// Writes the files, prints what is left, and returns the exit status.
-fn finish(
-    rt: &HostRuntime,
+/// The name of a file in a folder.
+fn name_in(alloc: Global, folder: &str, file: &str) -> Result<String, AllocError>
+    ensures { IfOk result (λ name. IsFileIn folder.now file.now (string_bytes name)) }
+{
+    format!(in alloc; "{folder}/{file}")
+}
+
+/// The texts of the files, and the line that tells what is left.
+#[derive(Drop)]
+pub struct PartTexts {
+    pub proof: Vec<u8>,
+    pub best: Vec<u8>,
+    pub parts: Vec<u8>,
+    pub line: String,
+}
+
+/// Writes the files, prints what is left, and returns how the run ends. If a file cannot be written, nothing is printed.
+fn write_parts<S: Sink>(
+    alloc: Global,
+    sink: &mut S,
     request: &SplitRequest<'_>,
-    mut outputs: Outputs<'_>,
-    names: &Names,
+    names: &PartFiles,
     skeleton: &Skeleton,
-) -> ExitCode {
-    let status = write_files(rt, &mut outputs, names, skeleton);
+) -> Status
+    ensures ends { IsSuccess result → result ≡ split_status (length skeleton.now.parts.items) request.now.parts }
+    ensures told { IsSuccess result → TellsSplit S.writes S.prints names.now skeleton.now sink.old sink.new }
+{
+    let texts = match texts_of(alloc, skeleton) {
+        Ok(texts) => texts,
+        Err(error) => return sink.refuse(request.folder, error),
+    };
+    let status = write_files(alloc, sink, names, &texts);
     if status != Status::Done {
-        return ExitCode::from(status.code());
+        return status;
     }
+    let printed = sink.print(alloc, texts.line.as_bytes());
+    worse(ending_of(request, skeleton), printed)
+}
+
+/// How the run ends if all is written: early if there are fewer parts than requested, but some.
+fn ending_of(request: &SplitRequest<'_>, skeleton: &Skeleton) -> Status
+    ensures { result ≡ split_status (length skeleton.now.parts.items) request.now.parts }
+{
     let left = skeleton.parts.len();
-    let status = if left == 0 || left >= request.parts as usize {
+    if left == 0 || left >= request.parts as usize {
         Status::Done
     } else {
         Status::Stopped
-    };
-    let status = match line_of(rt.alloc(), skeleton) {
-        Ok(line) => worse(status, print_text(rt, line.as_bytes())),
-        Err(_) => refuse_with(rt, request.folder, PlannerError::OutOfMemory),
-    };
-    ExitCode::from(status.code())
+    }
+}
+
+/// Writes the three files, each independently of the others.
+fn write_files<S: Sink>(alloc: Global, sink: &mut S, names: &PartFiles, texts: &PartTexts) -> Status
+    ensures { EndsWith result (WritesParts S.writes names.now texts.now sink.old sink.new) }
+{
+    let proof = sink.put(alloc, &names.proof, &texts.proof);
+    let best = sink.put(alloc, &names.best, &texts.best);
+    let parts = sink.put(alloc, &names.parts, &texts.parts);
+    worse(proof, worse(best, parts))
+}
+
+/// The texts of a skeleton.
+fn texts_of(alloc: Global, skeleton: &Skeleton) -> Result<PartTexts, PlannerError>
+    ensures { IfOk result (AreTextsOf skeleton.now) }
+{
+    let proof = text_of_proof(alloc, &skeleton.proof)?;
+    let best = solution_of(alloc, skeleton)?;
+    let parts = lines_of_parts(alloc, &skeleton.parts)?;
+    let left = skeleton.parts.len();
+    let line = line_of(alloc, skeleton.proof.cost(), skeleton.proof.bound(), left)?;
+    Ok(PartTexts {
+        proof,
+        best,
+        parts,
+        line,
+    })
 }
 
 /// The line with what is left.
-fn line_of(alloc: Global, skeleton: &Skeleton) -> Result<String, AllocError> {
-    let (cost, bound) = (skeleton.proof.cost(), skeleton.proof.bound());
-    let left = skeleton.parts.len();
+fn line_of(alloc: Global, cost: i128, bound: i128, left: usize) -> Result<String, AllocError>
+    ensures { IfOk result (λ line. string_bytes line ≡ split_line cost bound left) }
+{
     if left == 0 {
         format!(in alloc; "cost {cost}, optimal, proved: no part is left\n")
     } else {
@@ -225,31 +347,15 @@ fn line_of(alloc: Global, skeleton: &Skeleton) -> Result<String, AllocError> {
     }
 }
 
-/// Writes the three files into the folder.
-fn write_files(
-    rt: &HostRuntime,
-    outputs: &mut Outputs<'_>,
-    names: &Names,
-    skeleton: &Skeleton,
-) -> Status {
-    let alloc = rt.alloc();
-    let proof = text_of_proof(alloc, &skeleton.proof);
-    let best = solution_of(alloc, skeleton);
-    let nodes = node_lines(alloc, skeleton);
-    let status = outputs.put(rt, Some(names.proof.as_str()), proof);
-    let status = worse(status, outputs.put(rt, Some(names.best.as_str()), best));
-    worse(status, outputs.put(rt, Some(names.parts.as_str()), nodes))
-}
-
-/// The list of parts.
-fn node_lines(alloc: Global, skeleton: &Skeleton) -> Result<Vec<u8>, PlannerError> {
-    Ok(lines_of_parts(alloc, &skeleton.parts)?)
-}
-
 /// The text of the best permutation.
-fn solution_of(alloc: Global, skeleton: &Skeleton) -> Result<Vec<u8>, PlannerError> {
+fn solution_of(alloc: Global, skeleton: &Skeleton) -> Result<Vec<u8>, PlannerError>
+    ensures { IfOk result (λ text. text.items ≡ solution_text skeleton.now.proof.cost skeleton.now.proof.permutation) }
+{
     let mut text = Counted::new(Vec::new(alloc));
     let proof = &skeleton.proof;
-    write_solution(alloc, &mut text, proof.cost(), proof.perm())?;
-    Ok(text.into_inner())
+    match write_solution(alloc, &mut text, proof.cost(), proof.perm()) {
+        Ok(()) => Ok(text.into_inner()),
+        // Nothing but want of memory keeps a text from a vector.
+        Err(_) => Err(PlannerError::OutOfMemory),
+    }
 }

@@ -1,85 +1,78 @@
 //! The files that a run writes, and what it prints. Each is written independently of the others; the most serious
 //! status wins.
 
-ghost use Rattle.std.specs.Prelude.{◌≡◌, ◌≤◌, ◌⊎◌};
-ghost use Rattle.qap_plan.specs.Outputs.{severity};
+ghost use Rattle.std.specs.Prelude.{◌≡◌, ◌≤◌, ◌⊎◌, IfErr};
+ghost use Rattle.qap_plan.specs.Outputs.{IsFailure, severity};
 
 use crate::error::PlannerError;
-use crate::files::refusal::{refuse, refuse_with};
-use output_file::{FileId, Output, file_id, open_output, reason};
+use crate::files::refusal::refuse_with;
+use crate::files::sink::Sink;
+use output_file::{Output, file_id, open_output, reason};
 use qap_io::Status;
-use std::fs::File;
+use std::alloc::{AllocError, Global};
+use std::fs::{self, File};
 use std::io::{self, Write};
-use std::process::ExitCode;
+use std::marker::Model;
 
 /// A file that a run was asked to write, under the name that it was given.
 #[derive(Drop)]
-struct NamedOutput<'a> {
-    name: &'a str,
+struct NamedOutput {
+    name: String,
     output: Output<File>,
 }
 
-/// The regular files that a run reads and must not write: the plan or the instance, the tables, and an answer.
-pub type Inputs = [Option<FileId>; 4];
-
-/// The one file that a run on an instance reads.
-pub fn one_input(rt: &HostRuntime, file: &str) -> Inputs {
-    [file_id(rt, file), None, None, None]
-}
-
-/// The files that a run was asked to write, found to be writable before its work.
+/// The files of the system, of which some were found to be writable, and its standard streams. No contract says what they
+/// contain.
 #[derive(Drop)]
 pub struct Outputs<'a> {
-    files: Vec<NamedOutput<'a>>,
+    rt: &'a HostRuntime,
+    files: Vec<NamedOutput>,
+}
+
+impl<'a> Model for Outputs<'a> {
+    ghost Value = { Unit {0} };
+
+    ghost view = { λ _. tt };
 }
 
 impl<'a> Outputs<'a> {
-    /// Checks that these files can be written. None of them may be an input of the run, and no two the same file,
-    /// except devices. If one cannot be written, the reason is printed on standard error, and the exit status is
-    /// returned.
-    pub fn open(
-        rt: &HostRuntime,
-        names: &[Option<&'a str>],
-        inputs: &Inputs,
-    ) -> Result<Outputs<'a>, ExitCode> {
-        let Ok(files) = Vec::with_capacity(rt.alloc(), names.len()) else {
-            return Err(refuse(rt, "qapplan", PlannerError::OutOfMemory));
-        };
-        let mut outputs = Outputs { files };
-        for &name in names {
-            let Some(name) = name else {
-                continue;
-            };
-            outputs.open_one(rt, name, inputs)?;
+    /// With no file found to be writable yet. Allocates nothing.
+    pub fn new(rt: &'a HostRuntime) -> Outputs<'a> {
+        Outputs {
+            rt,
+            files: Vec::new(rt.alloc()),
         }
-        Ok(outputs)
     }
 
     /// Opens one more file.
-    fn open_one(
-        &mut self,
-        rt: &HostRuntime,
-        name: &'a str,
-        inputs: &Inputs,
-    ) -> Result<(), ExitCode> {
-        let output = match open_output(rt, name) {
+    fn open_one(&mut self, alloc: Global, name: &str, inputs: &[&str]) -> Result<(), Status>
+        ensures refused { IfErr result IsFailure }
+    {
+        let output = match open_output(self.rt, name) {
             Ok(output) => output,
-            Err(error) => return Err(ExitCode::from(refuse_io(rt, name, &error).code())),
+            Err(error) => return Err(refuse_io(self.rt, name, &error)),
         };
         if let Some(clash) = self.clash_of(&output, inputs) {
-            let _ = rt.eprintln(format_args!("error: {name}: {clash}"));
-            return Err(ExitCode::from(Status::Usage.code()));
+            let _ = self.rt.eprintln(format_args!("error: {name}: {clash}"));
+            return Err(Status::Usage);
         }
-        match self.files.push(NamedOutput { name, output }) {
+        match self.keep(alloc, name, output) {
             Ok(()) => Ok(()),
-            Err(_) => Err(refuse(rt, name, PlannerError::OutOfMemory)),
+            Err(_) => Err(refuse_with(self.rt, name, PlannerError::OutOfMemory)),
         }
     }
 
+    /// Keeps an output until its text is known.
+    fn keep(&mut self, alloc: Global, name: &str, output: Output<File>) -> Result<(), AllocError> {
+        let name = String::from_str(alloc, name)?;
+        self.files.push(NamedOutput { name, output })?;
+        Ok(())
+    }
+
     /// Why the output may not be written, if it may not.
-    fn clash_of(&self, output: &Output<File>, inputs: &Inputs) -> Option<&'static str> {
-        for input in inputs {
-            if let Some(id) = *input {
+    fn clash_of(&self, output: &Output<File>, inputs: &[&str]) -> Option<&'static str> {
+        for &input in inputs {
+            if let Some(id) = file_id(self.rt, input) {
                 if output.replaces(id) {
                     return Some("the run reads this file: write to another one");
                 }
@@ -93,51 +86,83 @@ impl<'a> Outputs<'a> {
         None
     }
 
-    /// Writes a text to the file of this name, if one was requested; if there is no text, the file is unchanged. The
-    /// reason of a failure is printed on standard error.
-    pub fn put(
-        &mut self,
-        rt: &HostRuntime,
-        name: Option<&str>,
-        text: Result<Vec<u8>, PlannerError>,
-    ) -> Status {
-        let Some(NamedOutput { name, output }) = self.take(name) else {
-            return Status::Done;
-        };
-        let text = match text {
-            Ok(text) => text,
-            Err(error) => return refuse_with(rt, name, error),
-        };
-        match output.put(rt, &text) {
-            Ok(()) => Status::Done,
-            Err(error) => refuse_io(rt, name, &error),
-        }
-    }
-
-    /// The first file of this name that has not been written yet.
-    fn take(&mut self, name: Option<&str>) -> Option<NamedOutput<'a>> {
-        let name = name?;
+    /// The first file of this name that has not been written yet; one that was not opened is opened now.
+    fn take(&mut self, name: &str) -> io::Result<Output<File>> {
         let mut at: usize = 0;
         for file in &self.files {
-            if file.name == name {
+            if file.name.as_str() == name {
                 break;
             }
             at = at.saturating_add(1);
         }
         if at < self.files.len() {
-            Some(self.files.remove(at))
+            Ok(self.files.remove(at).output)
         } else {
-            None
+            open_output(self.rt, name)
         }
     }
 }
 
-/// Prints a text on standard output. A closed pipe is not an error: its reader needed no more.
-pub fn print_text(rt: &HostRuntime, text: &[u8]) -> Status {
-    match write_all(&mut rt.stdout(), text) {
-        Ok(()) => Status::Done,
-        Err(error) if error.kind() == io::ErrorKind::BrokenPipe => Status::Done,
-        Err(error) => refuse_io(rt, "standard output", &error),
+impl Sink for Outputs<'_> {
+    ghost writes = { λ _ _ _ _. Unit {0} };
+
+    ghost prints = { λ _ _ _. Unit {0} };
+
+    ghost holds_device = { λ _ _ _. Unit {0} };
+
+    fn open(
+        &mut self,
+        alloc: Global,
+        names: &[Option<&str>],
+        inputs: &[&str],
+    ) -> Result<(), Status> {
+        for &name in names {
+            if let Some(name) = name {
+                self.open_one(alloc, name, inputs)?;
+            }
+        }
+        Ok(())
+    }
+
+    fn make_folder(&self, name: &str) -> Result<(), Status> {
+        match fs::create_dir_all(self.rt, name) {
+            Ok(()) => Ok(()),
+            Err(error) => Err(refuse_io(self.rt, name, &error)),
+        }
+    }
+
+    fn put(&mut self, _alloc: Global, name: &str, text: &[u8]) -> Status {
+        let output = match self.take(name) {
+            Ok(output) => output,
+            Err(error) => return refuse_io(self.rt, name, &error),
+        };
+        match output.put(self.rt, text) {
+            Ok(()) => Status::Done,
+            Err(error) => refuse_io(self.rt, name, &error),
+        }
+    }
+
+    fn print(&mut self, _alloc: Global, text: &[u8]) -> Status {
+        match write_all(&mut self.rt.stdout(), text) {
+            Ok(()) => Status::Done,
+            Err(error) if error.kind() == io::ErrorKind::BrokenPipe => Status::Done,
+            Err(error) => refuse_io(self.rt, "standard output", &error),
+        }
+    }
+
+    fn is_device(&self, name: &str) -> bool {
+        match fs::metadata(self.rt, name) {
+            Ok(found) => !found.is_file(),
+            Err(_) => false,
+        }
+    }
+
+    fn refuse(&self, file: &str, error: PlannerError) -> Status {
+        refuse_with(self.rt, file, error)
+    }
+
+    fn note(&self, line: &str) {
+        let _ = self.rt.eprintln(line);
     }
 }
 
@@ -148,7 +173,9 @@ fn write_all<W: Write>(writer: &mut W, text: &[u8]) -> io::Result<()> {
 }
 
 /// Prints on standard error why a file can't be written, in the system's own words.
-fn refuse_io(rt: &HostRuntime, name: &str, error: &io::Error) -> Status {
+fn refuse_io(rt: &HostRuntime, name: &str, error: &io::Error) -> Status
+    ensures { IsFailure result }
+{
     if error.kind() == io::ErrorKind::OutOfMemory {
         return refuse_with(rt, name, PlannerError::OutOfMemory);
     }

@@ -1,126 +1,113 @@
 //! Arrangements that a run reads: as a list of departments and places, as the JSON of an answer, or as a solution.
 
-ghost use Rattle.std.specs.Prelude.{IfOk, length, ◌≡◌};
+ghost use Rattle.std.specs.Prelude.{IfOk, IfSome, length, option_copied, ◌≡◌};
 ghost use Rattle.plan_check.specs.Layout.{IsLayoutOf};
 ghost use Rattle.plan_file.specs.Tables.{HasSizes};
+ghost use Rattle.qap_plan.specs.Begun.{IsArrangementIn, IsArrangementOf, IsStartIn};
 
 use crate::error::PlannerError;
-use crate::files::refusal::refuse;
-use crate::input::judged_files::{bytes_of, refuse_answer};
+use crate::files::refusal::Refusal;
+use crate::input::file_bytes::text_in;
+use crate::input::starting::permutation_in;
 use plan_check::{answer_to_plan, layout_of};
-use plan_file::{LayoutError, NamedProblem, identity};
-use plan_table::{decode, is_layout};
-use qap_cost::{Perm, cost};
-use qap_io::Status;
+use plan_file::{NamedProblem, identity};
+use plan_input::Texts;
+use plan_table::is_layout;
+use qap_cost::Perm;
 use std::alloc::{AllocError, Global};
-use std::process::ExitCode;
 
-/// The text of a solution as the start of a plan's search, if a file is named: a list of departments and places, and
-/// the JSON of an answer, are converted to one.
-pub fn start_text(
-    rt: &HostRuntime,
+/// The arrangement with which the search of a plan begins, if a file is named: a list of departments and places, the
+/// JSON of an answer, or a solution.
+pub fn start_in<'a, D: Texts>(
+    alloc: Global,
+    texts: &D,
     problem: &NamedProblem,
-    file: Option<&str>,
-) -> Result<Option<Vec<u8>>, ExitCode>
+    file: Option<&'a str>,
+) -> Result<Option<Perm>, Refusal<'a>>
     requires { HasSizes problem.now }
+    ensures size { IfOk result (λ start. IfSome start (λ p. length p ≡ problem.now.instance.size)) }
+    ensures start { IfOk result (IsStartIn (D.holds texts.now) problem.now (option_copied file.entry)) }
 {
-    let Some(file) = file else {
-        return Ok(None);
-    };
-    let bytes = bytes_of(rt, file)?;
-    match form_of(rt.alloc(), bytes) {
-        Ok(Form::Json(text)) => match answer_to_plan(rt.alloc(), problem, &text) {
-            Ok(answer) => made(
-                rt,
-                file,
-                solution_of(rt.alloc(), problem, &answer.permutation),
-            ),
-            Err(error) => Err(refuse_answer(rt, file, &error)),
+    match file {
+        Some(file) => Ok(Some(arrangement_in(alloc, texts, problem, file)?)),
+        None => Ok(None),
+    }
+}
+
+/// The arrangement in a file.
+fn arrangement_in<'a, D: Texts>(
+    alloc: Global,
+    texts: &D,
+    problem: &NamedProblem,
+    file: &'a str,
+) -> Result<Perm, Refusal<'a>>
+    requires { HasSizes problem.now }
+    ensures size { IfOk result (λ p. length p ≡ problem.now.instance.size) }
+    ensures arrangement { IfOk result (IsArrangementIn (D.holds texts.now) problem.now file.now) }
+{
+    let text = text_in(alloc, texts, file)?;
+    arrangement_of(alloc, problem, file, &text)
+}
+
+/// The arrangement in a text; `file` is the name of its file.
+fn arrangement_of<'a>(
+    alloc: Global,
+    problem: &NamedProblem,
+    file: &'a str,
+    text: &[u8],
+) -> Result<Perm, Refusal<'a>>
+    requires { HasSizes problem.now }
+    ensures size { IfOk result (λ p. length p ≡ problem.now.instance.size) }
+    ensures arrangement { IfOk result (IsArrangementOf problem.now text.now) }
+{
+    match form_of(alloc, text) {
+        Ok(Form::Json) => match answer_to_plan(alloc, problem, text) {
+            Ok(answer) => Ok(answer.permutation),
+            Err(error) => Err(Refusal::Answer(file, error)),
         },
-        Ok(Form::Layout(text)) => {
-            let arrangement = layout_in(rt, problem, file, &text)?;
-            made(rt, file, solution_of(rt.alloc(), problem, &arrangement))
-        }
-        Ok(Form::Solution(text)) => Ok(Some(text)),
-        Err(_) => Err(refuse(rt, file, PlannerError::OutOfMemory)),
+        Ok(Form::Layout) => layout_in(alloc, problem, file, text),
+        Ok(Form::Solution) => match permutation_in(alloc, text, &problem.instance) {
+            Ok(permutation) => Ok(permutation),
+            Err(error) => Err(Refusal::File(file, error)),
+        },
+        Err(_) => Err(Refusal::File(file, PlannerError::OutOfMemory)),
     }
 }
 
 /// The arrangement that a text lists; `file` is the name of its file.
-pub fn layout_in(
-    rt: &HostRuntime,
+pub fn layout_in<'a>(
+    alloc: Global,
     problem: &NamedProblem,
-    file: &str,
+    file: &'a str,
     text: &[u8],
-) -> Result<Perm, ExitCode>
+) -> Result<Perm, Refusal<'a>>
     requires { HasSizes problem.now }
     ensures { IfOk result (IsLayoutOf problem.now text.now) }
 {
-    let Ok(any) = identity(rt.alloc(), &problem.instance) else {
-        return Err(refuse(rt, file, PlannerError::OutOfMemory));
+    let Ok(any) = identity(alloc, &problem.instance) else {
+        return Err(Refusal::File(file, PlannerError::OutOfMemory));
     };
-    match layout_of(rt.alloc(), problem, text, &any) {
+    match layout_of(alloc, problem, text, &any) {
         Ok(arrangement) => Ok(arrangement),
-        Err(error) => Err(refuse_layout(rt, file, &error)),
+        Err(error) => Err(Refusal::Layout(file, error)),
     }
 }
 
-/// Tells on standard error what the file of an arrangement is refused for.
-fn refuse_layout(rt: &HostRuntime, file: &str, error: &LayoutError) -> ExitCode {
-    if let LayoutError::OutOfMemory = error {
-        return refuse(rt, file, PlannerError::OutOfMemory);
-    }
-    let _ = rt.eprintln(format_args!("error: {file}: {error}"));
-    ExitCode::from(Status::Refused.code())
-}
-
-/// What a file of an arrangement is, with its text.
-#[derive(Drop)]
+/// How a text states an arrangement.
+#[derive(Clone, Copy, Debug, PartialEq, Eq)]
 enum Form {
-    Json(Vec<u8>),
-    Layout(Vec<u8>),
-    Solution(Vec<u8>),
+    Json,
+    Layout,
+    Solution,
 }
 
-/// What a text is: JSON begins with a brace, and a list with the names of its columns.
-fn form_of(alloc: Global, bytes: Vec<u8>) -> Result<Form, AllocError> {
-    let text = decode(alloc, bytes)?.text;
+/// How a text states an arrangement: JSON begins with a brace, and a list with the names of its columns.
+fn form_of(alloc: Global, text: &[u8]) -> Result<Form, AllocError> {
     if text.trim_ascii_start().first() == Some(&b'{') {
-        return Ok(Form::Json(text));
+        return Ok(Form::Json);
     }
-    if is_layout(alloc, &text)? {
-        return Ok(Form::Layout(text));
+    if is_layout(alloc, text)? {
+        return Ok(Form::Layout);
     }
-    Ok(Form::Solution(text))
-}
-
-/// The text of an arrangement as a solution.
-pub fn solution_of(
-    alloc: Global,
-    problem: &NamedProblem,
-    arrangement: &Perm,
-) -> Result<Vec<u8>, AllocError>
-    requires { length arrangement.now ≡ problem.now.instance.size }
-{
-    let size = problem.instance.size();
-    let cost = cost(&problem.instance, arrangement);
-    let mut text = format!(in alloc; "{size} {cost}\n")?;
-    for &location in arrangement.locations() {
-        let number = u32::from(location) + 1;
-        let word = format!(in alloc; " {number}")?;
-        text.push_str(word.as_str())?;
-    }
-    Ok(text.into_bytes())
-}
-
-/// A text that was made of a file.
-fn made(
-    rt: &HostRuntime,
-    file: &str,
-    text: Result<Vec<u8>, AllocError>,
-) -> Result<Option<Vec<u8>>, ExitCode> {
-    match text {
-        Ok(text) => Ok(Some(text)),
-        Err(_) => Err(refuse(rt, file, PlannerError::OutOfMemory)),
-    }
+    Ok(Form::Solution)
 }

@@ -1,6 +1,6 @@
 //! What restricts an arrangement: what is fixed, what facilities pay for their locations, and which they may not take.
 
-ghost use Rattle.std.specs.Prelude.{◌≡◌, IfOk, IsTrue};
+ghost use Rattle.std.specs.Prelude.{◌≡◌, IfOk, IfSome, IsTrue};
 ghost use Rattle.plan_charge.specs.Charges.{AreCharges};
 ghost use Rattle.plan_charge.specs.Forbidden.{AreForbidden};
 ghost use Rattle.plan_charge.specs.Restricted.{IsAllowed, Restricts};
@@ -55,7 +55,8 @@ pub fn allowed_start(
     requested: Option<Perm>,
 ) -> Result<Perm, PlannerError>
     requires { AreForbidden restriction.now.fixed.now.size restriction.now.forbidden.now }
-    ensures { IfOk result (IsAllowed restriction.now.fixed.now restriction.now.forbidden.now) }
+    ensures allowed { IfOk result (IsAllowed restriction.now.fixed.now restriction.now.forbidden.now) }
+    ensures requested { IfOk result (λ start. IfSome requested (λ p. start ≡ p)) }
 {
     match requested {
         Some(start) => {

@@ -3,7 +3,7 @@
 ghost use Rattle.std.specs.Prelude.{IfOk, IfSome, MatchResult, length, ◌<◌, ◌≡◌, ◌≢◌, ◌≤◌, ◌⊎◌};
 ghost use Rattle.qap_cost.specs.Objective.{Permutes, cost_of};
 ghost use Rattle.qap_text.specs.Input.{input_of};
-ghost use Rattle.qap_plan.specs.Starting.{HasNoSolution, HasNoStart, HasOtherCost, HasSolution, HasStart, NoStart, of_start, starting_of};
+ghost use Rattle.qap_plan.specs.Starting.{AreSolution, HasNoSolution, HasNoStart, HasOtherCost, HasSolution, HasStart, NoStart, of_start, starting_of};
 ghost use Rattle.qap_plan.specs.declared.error.PlannerError.TheVariants.{StartCost as OtherCost};
 
 use crate::error::PlannerError;
@@ -30,8 +30,21 @@ pub fn read_start<Q: Read>(
     }
 }
 
+/// The permutation of the solution with which some bytes begin; its size must be the instance's, and the cost that it
+/// states correct.
+pub fn permutation_in(
+    alloc: Global,
+    bytes: &[u8],
+    instance: &Instance,
+) -> Result<Perm, PlannerError>
+    ensures solution { IfOk result (AreSolution bytes.now instance.now) }
+    ensures permutes { IfOk result (Permutes instance.now) }
+{
+    read_permutation(alloc, &mut Counted::new(bytes), instance)
+}
+
 /// The permutation that the text of a solution has, and states the cost of.
-pub(crate) fn read_permutation<Q: Read>(
+fn read_permutation<Q: Read>(
     alloc: Global,
     reader: &mut Counted<Q>,
     instance: &Instance,

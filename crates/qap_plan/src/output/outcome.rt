@@ -2,6 +2,7 @@
 
 ghost use Rattle.std.specs.Prelude.{◌≡◌, ℕ, IfOk, List};
 ghost use Rattle.qap_io.specs.declared.status.Status.{Status};
+ghost use Rattle.qap_plan.specs.Outputs.{IsSuccess};
 ghost use Rattle.qap_plan.specs.declared.output.outcome.Kind.{Kind};
 
 use crate::error::PlannerError;
@@ -37,5 +38,6 @@ pub trait Outcome {
         ensures { IfOk result (λ text. tells self.now kind text.items) };
 
     fn status(&self) -> Status
-        ensures { result ≡ ends self.now };
+        ensures ends { result ≡ ends self.now }
+        ensures success { IsSuccess result };
 }

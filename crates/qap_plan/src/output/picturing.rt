@@ -1,6 +1,6 @@
 //! The picture of an answer, and the report on it.
 
-ghost use Rattle.std.specs.Prelude.{IfOk, length, ◌≡◌};
+ghost use Rattle.std.specs.Prelude.{IfOk, IfSome, length, ◌≡◌};
 ghost use Rattle.plan_file.specs.Tables.{HasSizes};
 ghost use Rattle.plan_picture.specs.Picture.{IsPicture};
 ghost use Rattle.plan_report.specs.Page.{IsPage};
@@ -9,7 +9,6 @@ ghost use Rattle.qap_cost.specs.Placement.{Completes};
 ghost use Rattle.qap_plan.specs.Picturing.{ShowsVerdict};
 
 use crate::error::PlannerError;
-use crate::input::starting::read_start;
 use crate::search::planning::Planned;
 use plan_answer::{compared_text, verdict_text};
 use plan_file::{NamedProblem, YAxis};
@@ -18,8 +17,7 @@ use plan_picture::{Caption, picture};
 use plan_report::{Report, report_page};
 use qap_command::VERSION;
 use qap_cost::Perm;
-use qap_io::Counted;
-use std::alloc::Global;
+use std::alloc::{AllocError, Global};
 
 /// How a plan wants to be drawn.
 #[derive(Clone, Copy, Drop)]
@@ -86,10 +84,11 @@ pub fn report_text(
     answer: &Planned,
     file: &str,
     drawn: &Drawn<'_>,
-    start: &Option<Vec<u8>>,
+    start: &Option<Perm>,
 ) -> Result<Vec<u8>, PlannerError>
     requires sizes { HasSizes problem.now }
     requires kept { Completes problem.now.fixed answer.now.permutation }
+    requires start { IfSome start.now (λ p. length p ≡ problem.now.instance.size) }
     ensures { IfOk result (λ text. (report : Report) × IsPage problem.now answer.now.permutation answer.now.cost answer.now.bound report text.items) }
 {
     let compared = compared_with(alloc, problem, answer, start)?;
@@ -116,25 +115,17 @@ fn compared_with(
     alloc: Global,
     problem: &NamedProblem,
     answer: &Planned,
-    start: &Option<Vec<u8>>,
-) -> Result<Option<Vec<u8>>, PlannerError>
+    start: &Option<Perm>,
+) -> Result<Option<Vec<u8>>, AllocError>
     requires sizes { HasSizes problem.now }
     requires kept { Completes problem.now.fixed answer.now.permutation }
+    requires start { IfSome start.now (λ p. length p ≡ problem.now.instance.size) }
 {
-    let mut reader = match start {
-        Some(text) => Some(Counted::new(text.as_slice())),
-        None => None,
+    let Some(today) = start else {
+        return Ok(None);
     };
-    match read_start(alloc, &mut reader, &problem.instance)? {
-        Some(today) => Ok(Some(compared_text(
-            alloc,
-            problem,
-            &today,
-            &answer.permutation,
-            answer.bound,
-        )?)),
-        None => Ok(None),
-    }
+    let text = compared_text(alloc, problem, today, &answer.permutation, answer.bound)?;
+    Ok(Some(text))
 }
 
 /// What a report says besides the arrangement.

@@ -1,6 +1,6 @@
 //! What the outputs of a run on a plan tell.
 
-ghost use Rattle.std.specs.Prelude.{ℕ, IfOk, List, ◌≡◌};
+ghost use Rattle.std.specs.Prelude.{ℕ, IfOk, IfSome, List, length, ◌≡◌};
 ghost use Rattle.plan_answer.specs.Answer.{IsAnswerText};
 ghost use Rattle.plan_answer.specs.Layout.{layout_text as layout_of};
 ghost use Rattle.plan_file.specs.Tables.{HasSizes};
@@ -25,8 +25,8 @@ use std::alloc::Global;
 #[derive(Drop)]
 pub struct PlanOutcome<'a> {
     pub loaded: &'a Loaded,
-    /// The text of the start, if one is named.
-    pub start: &'a Option<Vec<u8>>,
+    /// The arrangement with which the search began, if one is named.
+    pub start: &'a Option<Perm>,
     pub answer: &'a Planned,
     /// The name of the plan's file.
     pub file: &'a str,
@@ -34,7 +34,8 @@ pub struct PlanOutcome<'a> {
 }
 
 impl Outcome for PlanOutcome<'_> {
-    ghost is_sound = { λ s. HasSizes s.loaded.now.problem × Completes s.loaded.now.problem.fixed s.answer.now.permutation };
+    ghost is_sound = { λ s. HasSizes s.loaded.now.problem × Completes s.loaded.now.problem.fixed s.answer.now.permutation
+        × IfSome s.start.now (λ p. length p ≡ s.loaded.now.problem.instance.size) };
 
     ghost tells = { λ s. TellsPlan s.loaded.now.problem s.answer.now };
 

@@ -81,13 +81,6 @@ impl<'a, R: Eprint + AllocGlobal + Files, T: time::Clock> Teller<'a, R, T> {
             self.is_stopped.set(fs::metadata(self.rt, file).is_ok());
         }
     }
-
-    /// Makes the terminal's line empty again.
-    pub fn finish(&self) {
-        if self.telling == Telling::OneLine {
-            let _ = self.rt.eprint(format_args!("\r{:<79}\r", ""));
-        }
-    }
 }
 
 impl<R: Eprint + AllocGlobal + Files, T: time::Clock> Keeper for Teller<'_, R, T> {
@@ -139,6 +132,13 @@ impl<R: Eprint + AllocGlobal + Files, T: time::Clock> Keeper for Teller<'_, R, T
         let _ = self.rt.eprintln(format_args!(
             "the search ends, since it has more memory than it may: --memory MB allows more"
         ));
+    }
+
+    /// Makes the terminal's line empty again.
+    fn finish(&self) {
+        if self.telling == Telling::OneLine {
+            let _ = self.rt.eprint(format_args!("\r{:<79}\r", ""));
+        }
     }
 }
 

@@ -41,6 +41,9 @@ pub fn text_of_proof(alloc: Global, proof: &Proof) -> Result<Vec<u8>, PlannerErr
 {
     proof.proof_law();
     let mut text = Counted::new(Vec::new(alloc));
-    write(alloc, &mut text, proof)?;
-    Ok(text.into_inner())
+    match write(alloc, &mut text, proof) {
+        Ok(()) => Ok(text.into_inner()),
+        // Nothing but want of memory keeps a text from a vector.
+        Err(_) => Err(PlannerError::OutOfMemory),
+    }
 }

@@ -31,4 +31,7 @@ pub trait Keeper {
 
     /// Reports that the search ends since it has more.
     fn tell_memory(&self);
+
+    /// Makes room for the answer, once the search has ended.
+    fn finish(&self);
 }

@@ -2,6 +2,7 @@
 
 ghost use Rattle.std.specs.Prelude.{true, ◌↔◌, ◌≡◌, ◌≤ℤ◌};
 ghost use Rattle.qap_plan.specs.Outcome.{status_of as status_for};
+ghost use Rattle.qap_plan.specs.Outputs.{IsSuccess};
 
 use proof_search::PairProof;
 use qap_cost::Perm;
@@ -37,7 +38,8 @@ impl Planned {
 
 /// How a run ends that has found an arrangement with this cost and this bound.
 pub fn status_of(cost: i128, bound: i128) -> Status
-    ensures { result ≡ status_for cost bound }
+    ensures value { result ≡ status_for cost bound }
+    ensures success { IsSuccess result }
 {
     if bound < cost {
         Status::Stopped

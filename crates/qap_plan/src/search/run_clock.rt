@@ -62,4 +62,6 @@ impl<T: time::Clock> Keeper for RunClock<'_, T> {
     }
 
     fn tell_memory(&self) {}
+
+    fn finish(&self) {}
 }

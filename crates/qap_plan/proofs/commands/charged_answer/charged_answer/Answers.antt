@@ -11,6 +11,7 @@ returns g c =
     let bound : FitsSigned w128 found.bound = search rules in
     record {
       start = c.in_ok-first.first;
+      begins = c.in_ok-first.ensures.requested;
       charged = c.in_ok-found.ensures.charged;
       parts = c.parts_of-parts.ensures;
       told = simp to_z-of_z at c.in_ok-text.ensures;

@@ -15,4 +15,4 @@ returns-clause-start c =
     let first = c.in_ok-longer.longer in
     let r = c.in_ok-larger.ensures in
     let is = first-is I J x y charges f start first c.size-2.result c.size.result r c.size-2.ensures.value c.size.ensures.value c.in_ok-longer.ensures in
-    permutes-larger I J x y charges f first r (subst (Completes y) (sym is) (c.restricted_law.ensures.longer I J x y charges f start r c.in_ok-start.ensures))
+    permutes-larger I J x y charges f first r (subst (Completes y) (sym is) (c.restricted_law.ensures.longer I J x y charges f start r c.in_ok-start.ensures.allowed))
