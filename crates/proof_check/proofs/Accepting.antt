@@ -1,6 +1,6 @@
 -- All lines of a proof with pair duals.
-use Rattle.std.proofs.Common.{◌≡◌, ℕ, ◌<◌, ◌++◌, List, [], ◌∷◌, length, ℤ, refl, ◌∙◌, ap, subst, arith, append_assoc}
-use Rattle.std.specs.Prelude.{codes, Option, None}
+use Rattle.std.proofs.Common.{◌≡◌, ℕ, ◌<◌, ◌++◌, List, [], ◌∷◌, length, ℤ, refl, sym, ◌∙◌, ap, subst, arith, append_assoc}
+use Rattle.std.specs.Prelude.{codes, false, Option, None, Some}
 use Rattle.std.specs.Io.KnownBytes.{Consumes, IsAtEnd}
 use Rattle.std.proofs.KnownBytes.{Consumes-trans, Consumes-whole}
 use Rattle.qap_cost.specs.Instance.{Problem}
@@ -8,11 +8,14 @@ use Rattle.qap_cost.specs.Objective.{cost_of}
 use Rattle.qap_cost.specs.Placement.{Placement}
 use Rattle.pair_duals.specs.CostStep.{step_of}
 use Rattle.qap_proof.specs.declared.acceptance.Verdict.{Verdict}
+use Rattle.qap_proof.proofs.OneText.{no_line-end}
 use Rattle.proof_tree.specs.Claim.{pair_claim, pair_proof_text}
+use Rattle.proof_tree.specs.Shape.{HasShape}
 use Rattle.proof_tree.specs.Text.{tree_text}
 use Rattle.proof_tree.specs.Tree.{Tree}
 use Rattle.proof_tree.specs.Valid.{Valid}
-use Rattle.proof_check.specs.Acceptance.{IsPairVerdictOf, ReadsHead, ReadsVerdict, pair_head_text}
+use Rattle.proof_check.specs.Acceptance.{IsPairVerdictOf, ReadsHead, ReadsVerdict, ShowsPairVerdict, pair_head_text}
+use Rattle.proof_check.specs.Completeness.{BeginsWithLine, HasHead, HasTree, IsCurrent, IsHeadOf}
 use Rattle.proof_check.specs.Walk.{WalksTree}
 
 -- the cost step is positive
@@ -43,3 +46,45 @@ ReadsVerdict-all I step x cost bound p line last a b c d verdict step_is head si
         says = says p w.tree;
       };
     }
+
+-- ---- a text of a proof that establishes a verdict
+
+-- it begins with the lines before a tree, and then the tree and the last line
+pub HasHead-shown : (I : Problem) (xs : List ℕ) (v : Verdict) (old : Option (List ℕ)) → old ≡ Some xs → (shows : ShowsPairVerdict I xs v)
+    → HasHead shows.proof.root shows.proof.cost shows.proof.bound shows.proof.permutation shows.proof.tree old (codes "end\n")
+HasHead-shown I xs v old known shows =
+    let C = shows.proof in
+    let proof = shows.is_text.proof in
+    record {
+      cost = proof.cost;
+      bound = proof.bound;
+      permutation = proof.permutation;
+      root = proof.root;
+      tree = proof.tree;
+      known = known ∙ ap Some shows.is_text.is ∙ ap Some (append_assoc (pair_head_text C.root C.cost C.bound C.permutation) (tree_text C.tree) (codes "end\n"));
+    }
+
+-- its tree is valid for the bound and under the root that were read
+pub HasTree-shown : (I : Problem) (step : ℕ) (xs : List ℕ) (v : Verdict) (x : Placement) (cost bound : ℤ) (p line : List ℕ) (new : Option (List ℕ)) → step ≡ step_of I → (shows : ShowsPairVerdict I xs v)
+    → IsHeadOf shows.proof.root shows.proof.cost shows.proof.bound shows.proof.permutation x cost bound p → IsCurrent line new (tree_text shows.proof.tree ++ codes "end\n") → HasTree I step bound x None line new (codes "end\n")
+HasTree-shown I step xs v x cost bound p line new step_is shows head current =
+    let C = shows.proof in
+    let root_is : C.root ≡ x = sym head.root_is in
+    let bound_is : C.bound ≡ bound = sym head.bound_is in
+    let valid = subst (λ (k : ℕ). Valid I k C.bound C.root None C.tree) (sym step_is) shows.proved.tree in
+    record {
+      tree = C.tree;
+      current = current;
+      shape = subst (λ (y : Placement). HasShape y false C.tree) root_is shows.is_text.proof.tree;
+      valid = subst (λ (y : Placement). Valid I step bound y None C.tree) root_is (subst (λ (z : ℤ). Valid I step z C.root None C.tree) bound_is valid);
+    }
+
+-- its permutation has the size and the cost
+pub fits_shown : (I : Problem) (xs : List ℕ) (v : Verdict) (x : Placement) (cost bound : ℤ) (p : List ℕ) (shows : ShowsPairVerdict I xs v) → IsHeadOf shows.proof.root shows.proof.cost shows.proof.bound shows.proof.permutation x cost bound p
+    → (length p ≡ I.size) × (cost_of I p ≡ cost)
+fits_shown I xs v x cost bound p shows head =
+    (ap length head.perm_is ∙ shows.proved.same_size, ap (cost_of I) head.perm_is ∙ shows.proved.cost ∙ sym head.cost_is)
+
+-- its last line
+pub end_begins : (old : Option (List ℕ)) → old ≡ Some (codes "end\n") → BeginsWithLine old (codes "end") []
+end_begins old known = record { text = codes "end\n"; known = known; first = record { is = refl; first = no_line-end } }

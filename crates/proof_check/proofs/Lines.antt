@@ -1,7 +1,7 @@
 -- Lines that were read, by what they say.
 use Rattle.std.proofs.Common.{◌≡◌, ℕ, ◌+◌, ◌-◌, ◌^◌, ◌<◌, ◌≤◌, ◌++◌, List, [], ◌∷◌, length, map, take, drop, get_or, ℤ, pos, unsigned_abs, to_z, of_z, sym, ◌∙◌, ap, subst, arith}
 use Rattle.std.proofs.lemmas.Int.{ints}
-use Rattle.std.specs.Prelude.{Option, None, Some, MatchOption, IfSome, ◌≢◌, negsuc}
+use Rattle.std.specs.Prelude.{Option, None, Some, MatchOption, ◌≢◌, negsuc}
 use Rattle.std.specs.Int.{w128}
 use Rattle.qap_lines.proofs.Numerals.{reads_wide}
 use Rattle.std.specs.Io.KnownBytes.{Consumes}
@@ -12,6 +12,7 @@ use Rattle.qap_lines.proofs.NumberLists.{AllLimited-one, held-within, held_withi
 use Rattle.qap_lines.proofs.Held.{held-all_within}
 use Rattle.std.proofs.lemmas.List.{take_all, take-append-drop, drop_more, length-drop}
 use Rattle.proof_tree.specs.Shape.{AreLimited}
+use Rattle.proof_check.proofs.Refusals.{no_number}
 
 -- a line of a name and limited numbers
 pub named-is : (name line : List ℕ) (zs : List ℤ) → IsNamed name line zs → AllLimited zs → line ≡ name ++ numbers_text zs
@@ -50,8 +51,8 @@ limited_numbers m name line zs first named long limited is =
 -- one number that is counted from 1
 pub number_line : (name text : List ℕ) (size : ℕ) (v : ℤ) (r : Option ℕ) → ((z : ℤ) × IsNamed name text (z ∷ []) × (v ≡ held z)) → size ≤ 256
     → MatchOption r ((k : ℕ) → k < size → to_z w128 (of_z w128 v) ≢ pos (k + 1)) (λ k. (k < size) × (to_z w128 (of_z w128 v) ≡ pos (k + 1)))
-    → IfSome r (λ i. (i < size) × (text ≡ name ++ numbers_text (pos (i + 1) ∷ [])))
-number_line name text size v None said small found = tt
+    → MatchOption r ((i : ℕ) → i < size → text ≡ name ++ numbers_text (pos (i + 1) ∷ []) → ⊥) (λ i. (i < size) × (text ≡ name ++ numbers_text (pos (i + 1) ∷ [])))
+number_line name text size v None said small found = no_number name text size v said.0 small said.1 said.2 found
 number_line name text size v (Some i) said small found =
     let near : unsigned_abs v ≤ 10 ^ 25 = subst (λ (z : ℤ). unsigned_abs z ≤ 10 ^ 25) (sym said.2) (held-near said.0) in
     let is : v ≡ pos (i + 1) = sym (reads_wide v near) ∙ found.1 in

@@ -1,5 +1,5 @@
--- What a text with pair duals establishes about an instance's costs.
-use Rattle.std.specs.Prelude.{◌≡◌, ℕ, ◌<◌, ◌++◌, ◌∷◌, [], List, length, ℤ, pos, codes, ◌<ℤ◌, Option, IfSome}
+-- What a text with pair duals establishes about an instance's costs, and that no valid one is refused.
+use Rattle.std.specs.Prelude.{◌≡◌, ◌⊎◌, ℕ, ◌<◌, ◌++◌, ◌∷◌, [], List, length, ℤ, pos, codes, ◌<ℤ◌, Option, Some, IfSome}
 use Rattle.std.specs.Io.KnownBytes.{Consumes}
 use Rattle.qap_cost.specs.Bijection.{IsPerm}
 use Rattle.qap_cost.specs.Instance.{Problem}
@@ -10,6 +10,8 @@ use Rattle.qap_lines.specs.Bound.{IsBoundFor}
 use Rattle.qap_lines.specs.LineText.{line_text}
 use Rattle.qap_proof.specs.Claim.{IsRoot}
 use Rattle.qap_proof.specs.Text.{root_text, bound_text}
+use Rattle.qap_proof.specs.declared.error.ProofError.{ProofError}
+use Rattle.qap_proof.specs.declared.error.ProofError.TheVariants.{Device, OutOfMemory}
 use Rattle.qap_proof.specs.declared.acceptance.Verdict.{Verdict}
 use Rattle.qap_proof.specs.declared.acceptance.Verdict.TheVariants.{Optimal, Gap, Part}
 use Rattle.proof_tree.specs.Claim.{PairClaim, PairProves, IsPairProofText}
@@ -32,6 +34,14 @@ pub record ReadsVerdict (I : Problem) (old : Option (List ℕ)) (verdict : Verdi
   pub text : List ℕ
   pub whole : IfSome old (λ xs. xs ≡ text)
   pub shows : ShowsPairVerdict I text verdict
+
+-- memory ran out, or the reader failed
+abbrev pub IsInterruption : ProofError → Type 0
+IsInterruption e = (e ≡ OutOfMemory) ⊎ (e ≡ Device)
+
+-- bytes that are known to be the text of a proof which establishes a verdict are refused only by an interruption
+abbrev pub RefusesNoProof : Problem → Option (List ℕ) → ProofError → Type 0
+RefusesNoProof I old e = (text : List ℕ) (verdict : Verdict) → old ≡ Some text → ShowsPairVerdict I text verdict → IsInterruption e
 
 -- the lines before the tree, which state a root, a cost, a bound and a permutation
 abbrev pub pair_head_text : Placement → ℤ → ℤ → List ℕ → List ℕ

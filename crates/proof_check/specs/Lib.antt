@@ -1,4 +1,5 @@
 pub mod Acceptance
+pub mod Completeness
 pub mod Image
 pub mod Judge
 pub mod Lines

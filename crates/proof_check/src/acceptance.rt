@@ -1,13 +1,13 @@
 //! Checks texts of proofs with pair duals.
 
-ghost use Rattle.std.specs.Prelude.{◌≡◌, ◌^◌, ◌<◌, ◌≤◌, ℕ, List, length, codes, IfOk, OnOk};
+ghost use Rattle.std.specs.Prelude.{◌≡◌, ◌^◌, ◌<◌, ◌≤◌, ℕ, List, length, codes, IfErr, IfOk, MatchResult, OnErr, OnOk};
 ghost use Rattle.qap_cost.specs.Objective.{cost_of};
 ghost use Rattle.qap_cost.specs.Range.{IsLimited};
 ghost use Rattle.qap_lines.specs.Bound.{IsBoundFor};
 ghost use Rattle.pair_duals.specs.CostStep.{step_of};
 ghost use Rattle.proof_tree.specs.Claim.{pair_claim};
 ghost use Rattle.proof_tree.specs.Tree.{Tree};
-ghost use Rattle.proof_check.specs.Acceptance.{IsPairVerdictOf, ReadsVerdict};
+ghost use Rattle.proof_check.specs.Acceptance.{IsPairVerdictOf, ReadsVerdict, RefusesNoProof};
 ghost use Rattle.proof_check.specs.Judge.{IsGreatestBelow};
 
 use crate::cursor::{Cursor, advance, end};
@@ -31,6 +31,7 @@ pub fn accept<R: BufRead>(
 ) -> Result<Verdict, ProofError>
     requires step { step ≡ step_of instance.now }
     ensures verdict { IfOk result (ReadsVerdict instance.now (R.remaining reader.old)) }
+    ensures refused { IfErr result (RefusesNoProof instance.now (R.remaining reader.old)) }
 {
     let mut cursor = Cursor::new(alloc);
     let head = read_head(alloc, reader, &mut cursor)?;
@@ -66,6 +67,7 @@ fn below(bound: i128, step: u64) -> i128
 fn check_permutation(instance: &Instance, perm: &Perm, stated: i128) -> Result<(), ProofError>
     ensures size { OnOk result (length perm.now ≡ instance.now.size) }
     ensures cost { OnOk result (cost_of instance.now perm.now ≡ stated) }
+    ensures refused { OnErr result (length perm.now ≡ instance.now.size → cost_of instance.now perm.now ≡ stated → ⊥) }
 {
     if perm.len() != instance.size() {
         return Err(ProofError::SizeDiffers(2));
@@ -78,7 +80,7 @@ fn check_permutation(instance: &Instance, perm: &Perm, stated: i128) -> Result<(
 
 /// Makes sure that a line is the last one of a proof.
 fn check_end(line: &[u8], number: u64) -> Result<(), ProofError>
-    ensures { OnOk result (line.now ≡ codes "end") }
+    ensures { MatchResult result (λ _. line.now ≡ codes "end") (λ _. line.now ≡ codes "end" → ⊥) }
 {
     if line == b"end".as_slice() {
         Ok(())

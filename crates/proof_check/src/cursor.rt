@@ -1,7 +1,10 @@
 //! The lines of a text, in sequence.
 
-ghost use Rattle.std.specs.Prelude.{◌≡◌, ◌++◌, ◌∷◌, [], OnOk};
+ghost use Rattle.std.specs.Prelude.{◌≡◌, ◌++◌, ◌∷◌, [], Some, IfErr, OnOk};
 ghost use Rattle.std.specs.Io.KnownBytes.{Consumes, IsAtEnd};
+ghost use Rattle.qap_lines.specs.Line.{HasNoLine};
+ghost use Rattle.proof_check.specs.Acceptance.{IsInterruption};
+ghost use Rattle.proof_check.specs.Completeness.{RefusesLine};
 
 use qap_proof::ProofError;
 use std::alloc::Global;
@@ -26,7 +29,9 @@ impl Cursor {
 
 /// Reads the next line, in the memory that the last one had if that suffices.
 pub(crate) fn advance<R: BufRead>(reader: &mut R, cursor: &mut Cursor) -> Result<(), ProofError>
-    ensures { OnOk result (Consumes (R.remaining reader.old) (R.remaining reader.new) (cursor.new.line.items ++ 10 ∷ [])) }
+    ensures read { OnOk result (Consumes (R.remaining reader.old) (R.remaining reader.new) (cursor.new.line.items ++ 10 ∷ [])) }
+    ensures whole { OnOk result (HasNoLine cursor.new.line.items) }
+    ensures refused { IfErr result (RefusesLine (R.remaining reader.old)) }
 {
     cursor.line.clear();
     cursor.number = cursor.number.saturating_add(1);
@@ -37,7 +42,9 @@ pub(crate) fn advance<R: BufRead>(reader: &mut R, cursor: &mut Cursor) -> Result
 /// Reads a line into an empty list.
 fn read_line<R: BufRead>(reader: &mut R, line: &mut Vec<u8>, number: u64) -> Result<(), ProofError>
     requires { line.old.items ≡ [] }
-    ensures { OnOk result (Consumes (R.remaining reader.old) (R.remaining reader.new) (line.new.items ++ 10 ∷ [])) }
+    ensures read { OnOk result (Consumes (R.remaining reader.old) (R.remaining reader.new) (line.new.items ++ 10 ∷ [])) }
+    ensures whole { OnOk result (HasNoLine line.new.items) }
+    ensures refused { IfErr result (RefusesLine (R.remaining reader.old)) }
 {
     if let Err(error) = reader.read_until(b'\n', line) {
         return Err(told(&error));
@@ -50,7 +57,8 @@ fn read_line<R: BufRead>(reader: &mut R, line: &mut Vec<u8>, number: u64) -> Res
 
 /// Makes sure that nothing follows the last line.
 pub(crate) fn end<R: BufRead>(reader: &mut R, cursor: &mut Cursor) -> Result<(), ProofError>
-    ensures { OnOk result (IsAtEnd (R.remaining reader.old)) }
+    ensures end { OnOk result (IsAtEnd (R.remaining reader.old)) }
+    ensures refused { IfErr result (λ e. R.remaining reader.old ≡ Some [] → IsInterruption e) }
 {
     cursor.line.clear();
     let number = cursor.number.saturating_add(1);
@@ -60,7 +68,8 @@ pub(crate) fn end<R: BufRead>(reader: &mut R, cursor: &mut Cursor) -> Result<(),
 /// The same, with an empty list for what follows.
 fn nothing<R: BufRead>(reader: &mut R, line: &mut Vec<u8>, number: u64) -> Result<(), ProofError>
     requires { line.old.items ≡ [] }
-    ensures { OnOk result (IsAtEnd (R.remaining reader.old)) }
+    ensures end { OnOk result (IsAtEnd (R.remaining reader.old)) }
+    ensures refused { IfErr result (λ e. R.remaining reader.old ≡ Some [] → IsInterruption e) }
 {
     match reader.read_until(b'\n', line) {
         Ok(0) => Ok(()),
@@ -70,7 +79,9 @@ fn nothing<R: BufRead>(reader: &mut R, line: &mut Vec<u8>, number: u64) -> Resul
 }
 
 /// What is reported about a read that failed.
-fn told(error: &Error) -> ProofError {
+fn told(error: &Error) -> ProofError
+    ensures { IsInterruption result }
+{
     if error.kind() == ErrorKind::OutOfMemory {
         ProofError::OutOfMemory
     } else {

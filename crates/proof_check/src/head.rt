@@ -1,8 +1,9 @@
 //! The lines before the tree.
 
-ghost use Rattle.std.specs.Prelude.{◌≡◌, ◌++◌, ◌∷◌, [], ◌<◌, ◌≤◌, length, pos, codes, IfOk, IfSome, OnOk};
+ghost use Rattle.std.specs.Prelude.{◌≡◌, ◌≢◌, ◌++◌, ◌∷◌, [], ◌<◌, ◌≤◌, ℕ, ℤ, List, length, pos, codes, IfErr, IfOk, IfSome, MatchOption, MatchResult, OnOk, slice_index, ⊤};
 ghost use Rattle.std.specs.Io.KnownBytes.{Consumes};
 ghost use Rattle.qap_cost.specs.Bijection.{IsPerm};
+ghost use Rattle.qap_cost.specs.Placement.{Placement};
 ghost use Rattle.qap_cost.specs.Range.{IsLimited};
 ghost use Rattle.qap_io.specs.Number.{from_one as counted_from_one};
 ghost use Rattle.qap_lines.specs.Bound.{IsBoundFor};
@@ -10,8 +11,11 @@ ghost use Rattle.qap_lines.specs.LineText.{line_text};
 ghost use Rattle.qap_lines.specs.Number.{IsNamed};
 ghost use Rattle.qap_proof.specs.Claim.{IsRoot};
 ghost use Rattle.qap_proof.specs.Text.{bound_text, root_text};
-ghost use Rattle.qap_proof.specs.TextFault.{IsBelow};
-ghost use Rattle.proof_check.specs.Acceptance.{ReadsHead};
+ghost use Rattle.qap_proof.specs.TextFault.{HasRootLine, IsBelow};
+ghost use Rattle.proof_tree.specs.Text.{tree_text};
+ghost use Rattle.proof_tree.specs.Tree.{Tree};
+ghost use Rattle.proof_check.specs.Acceptance.{IsInterruption, ReadsHead};
+ghost use Rattle.proof_check.specs.Completeness.{HasBound, HasHead, HasRoot, IsCurrent, IsHeadOf, RefusesNamed};
 ghost use Rattle.proof_check.specs.Walk.{ReadsBehind};
 
 use crate::cursor::{Cursor, advance};
@@ -36,7 +40,11 @@ pub(crate) fn read_head<R: BufRead>(
     reader: &mut R,
     cursor: &mut Cursor,
 ) -> Result<Head, ProofError>
-    ensures { IfOk result (λ h. ReadsHead h.root h.cost h.bound h.perm cursor.new.line.items (R.remaining reader.old) (R.remaining reader.new)) }
+    ensures read { IfOk result (λ h. ReadsHead h.root h.cost h.bound h.perm cursor.new.line.items (R.remaining reader.old) (R.remaining reader.new)) }
+    ensures passed { MatchResult result
+        (λ h. (x : Placement) (c g : ℤ) (p : List ℕ) (t : Tree) (rest : List ℕ) → HasHead x c g p t (R.remaining reader.old) rest
+        → IsHeadOf x c g p h.root h.cost h.bound h.perm × IsCurrent cursor.new.line.items (R.remaining reader.new) (tree_text t ++ rest))
+        (λ e. (x : Placement) (c g : ℤ) (p : List ℕ) (t : Tree) (rest : List ℕ) → HasHead x c g p t (R.remaining reader.old) rest → IsInterruption e) }
 {
     read_header(reader, cursor)?;
     let n = read_size(reader, cursor)?;
@@ -55,7 +63,8 @@ pub(crate) fn read_head<R: BufRead>(
 
 /// The first line, which states the version.
 fn read_header<R: BufRead>(reader: &mut R, cursor: &mut Cursor) -> Result<(), ProofError>
-    ensures { OnOk result (Consumes (R.remaining reader.old) (R.remaining reader.new) (line_text (codes "qapproof") (pos 2 ∷ []))) }
+    ensures refused { IfErr result (RefusesNamed (codes "qapproof") (pos 2 ∷ []) (R.remaining reader.old)) }
+    ensures read { OnOk result (Consumes (R.remaining reader.old) (R.remaining reader.new) (line_text (codes "qapproof") (pos 2 ∷ []))) }
 {
     advance(reader, cursor)?;
     judge_header(&cursor.line)?;
@@ -63,7 +72,7 @@ fn read_header<R: BufRead>(reader: &mut R, cursor: &mut Cursor) -> Result<(), Pr
 }
 
 fn judge_header(line: &[u8]) -> Result<(), ProofError>
-    ensures { OnOk result (IsNamed (codes "qapproof") line.now (pos 2 ∷ [])) }
+    ensures { MatchResult result (λ _. IsNamed (codes "qapproof") line.now (pos 2 ∷ [])) (λ _. IsNamed (codes "qapproof") line.now (pos 2 ∷ []) → ⊥) }
 {
     match one_number(b"qapproof", line) {
         Some(2) => Ok(()),
@@ -74,7 +83,8 @@ fn judge_header(line: &[u8]) -> Result<(), ProofError>
 
 /// The size, which the second line states.
 fn read_size<R: BufRead>(reader: &mut R, cursor: &mut Cursor) -> Result<usize, ProofError>
-    ensures { IfOk result (λ n. (0 < n) × (n ≤ 256) × Consumes (R.remaining reader.old) (R.remaining reader.new) (line_text (codes "n") (pos n ∷ []))) }
+    ensures refused { IfErr result (λ e. (n : ℕ) → 0 < n → n ≤ 256 → RefusesNamed (codes "n") (pos n ∷ []) (R.remaining reader.old) e) }
+    ensures read { IfOk result (λ n. (0 < n) × (n ≤ 256) × Consumes (R.remaining reader.old) (R.remaining reader.new) (line_text (codes "n") (pos n ∷ []))) }
 {
     advance(reader, cursor)?;
     let size = judge_size(&cursor.line, cursor.number)?;
@@ -82,7 +92,9 @@ fn read_size<R: BufRead>(reader: &mut R, cursor: &mut Cursor) -> Result<usize, P
 }
 
 fn judge_size(line: &[u8], number: u64) -> Result<usize, ProofError>
-    ensures { IfOk result (λ n. (0 < n) × (n ≤ 256) × IsNamed (codes "n") line.now (pos n ∷ [])) }
+    ensures { MatchResult result
+        (λ n. (0 < n) × (n ≤ 256) × IsNamed (codes "n") line.now (pos n ∷ []))
+        (λ _. (n : ℕ) → 0 < n → n ≤ 256 → IsNamed (codes "n") line.now (pos n ∷ []) → ⊥) }
 {
     match one_number(b"n", line) {
         Some(size) if size > 0 && size <= MAX_SIZE as i128 => Ok(size as usize),
@@ -92,7 +104,8 @@ fn judge_size(line: &[u8], number: u64) -> Result<usize, ProofError>
 
 /// The cost, which the third line states.
 fn read_cost<R: BufRead>(reader: &mut R, cursor: &mut Cursor) -> Result<i128, ProofError>
-    ensures { IfOk result (λ c. IsLimited c × Consumes (R.remaining reader.old) (R.remaining reader.new) (line_text (codes "cost") (c ∷ []))) }
+    ensures refused { IfErr result (λ e. (c : ℤ) → IsLimited c → RefusesNamed (codes "cost") (c ∷ []) (R.remaining reader.old) e) }
+    ensures read { IfOk result (λ c. IsLimited c × Consumes (R.remaining reader.old) (R.remaining reader.new) (line_text (codes "cost") (c ∷ []))) }
 {
     advance(reader, cursor)?;
     let cost = judge_cost(&cursor.line, cursor.number)?;
@@ -100,7 +113,9 @@ fn read_cost<R: BufRead>(reader: &mut R, cursor: &mut Cursor) -> Result<i128, Pr
 }
 
 fn judge_cost(line: &[u8], number: u64) -> Result<i128, ProofError>
-    ensures { IfOk result (λ c. IsLimited c × IsNamed (codes "cost") line.now (c ∷ [])) }
+    ensures { MatchResult result
+        (λ c. IsLimited c × IsNamed (codes "cost") line.now (c ∷ []))
+        (λ _. (c : ℤ) → IsLimited c → IsNamed (codes "cost") line.now (c ∷ []) → ⊥) }
 {
     match one_number(b"cost", line) {
         Some(cost) if cost.unsigned_abs() <= MAX_VALUE => Ok(cost),
@@ -116,7 +131,8 @@ fn read_permutation<R: BufRead>(
     n: usize,
 ) -> Result<Perm, ProofError>
     requires small { n ≤ 256 }
-    ensures { IfOk result (λ p. IsPerm p × (length p ≡ n) × Consumes (R.remaining reader.old) (R.remaining reader.new) (line_text (codes "perm") (counted_from_one p))) }
+    ensures refused { IfErr result (λ e. (p : List ℕ) → IsPerm p → length p ≡ n → RefusesNamed (codes "perm") (counted_from_one p) (R.remaining reader.old) e) }
+    ensures read { IfOk result (λ p. IsPerm p × (length p ≡ n) × Consumes (R.remaining reader.old) (R.remaining reader.new) (line_text (codes "perm") (counted_from_one p))) }
 {
     advance(reader, cursor)?;
     let perm = judge_permutation(alloc, &cursor.line, n, cursor.number)?;
@@ -125,7 +141,8 @@ fn read_permutation<R: BufRead>(
 
 fn judge_permutation(alloc: Global, line: &[u8], n: usize, number: u64) -> Result<Perm, ProofError>
     requires small { n ≤ 256 }
-    ensures { IfOk result (λ p. IsPerm p × (length p ≡ n) × IsNamed (codes "perm") line.now (counted_from_one p)) }
+    ensures found { IfOk result (λ p. IsPerm p × (length p ≡ n) × IsNamed (codes "perm") line.now (counted_from_one p)) }
+    ensures refused { IfErr result (λ e. (p : List ℕ) → IsPerm p → length p ≡ n → IsNamed (codes "perm") line.now (counted_from_one p) → IsInterruption e) }
 {
     let mut locations = Vec::new(alloc);
     let Some(numbers) = read_numbers(b"perm", line, n, &mut locations)? else {
@@ -149,7 +166,10 @@ fn read_root<R: BufRead>(
 ) -> Result<Partial, ProofError>
     requires positive { 0 < n }
     requires small { n ≤ 256 }
-    ensures { IfOk result (λ x. IsRoot n x × ReadsBehind cursor.old.line.items (root_text x.facilities x.places) cursor.new.line.items (R.remaining reader.old) (R.remaining reader.new)) }
+    ensures passed { MatchResult result
+        (λ x. (y : Placement) (text : List ℕ) → HasRoot n y cursor.old.line.items (R.remaining reader.old) text → (x ≡ y) × IsCurrent cursor.new.line.items (R.remaining reader.new) text)
+        (λ e. (y : Placement) (text : List ℕ) → HasRoot n y cursor.old.line.items (R.remaining reader.old) text → IsInterruption e) }
+    ensures read { IfOk result (λ x. IsRoot n x × ReadsBehind cursor.old.line.items (root_text x.facilities x.places) cursor.new.line.items (R.remaining reader.old) (R.remaining reader.new)) }
 {
     match judge_root(alloc, &cursor.line, n, cursor.number)? {
         None => Ok(Partial::root(alloc, n)?),
@@ -169,7 +189,10 @@ fn judge_root(
 ) -> Result<Option<Partial>, ProofError>
     requires positive { 0 < n }
     requires small { n ≤ 256 }
-    ensures { IfOk result (λ o. IfSome o (λ x. IsRoot n x × (line.now ++ 10 ∷ [] ≡ root_text x.facilities x.places))) }
+    ensures found { IfOk result (λ o. IfSome o (λ x. IsRoot n x × (line.now ++ 10 ∷ [] ≡ root_text x.facilities x.places))) }
+    ensures none { IfOk result (λ o. MatchOption o ((text : List ℕ) → line.now ≢ codes "node " ++ text) (λ _. ⊤)) }
+    ensures other { IfErr result (λ e. slice_index line.now 0 ≢ 110 → IsInterruption e) }
+    ensures refused { IfErr result (λ e. (x : Placement) → HasRootLine n x → line.now ++ 10 ∷ [] ≡ root_text x.facilities x.places → IsInterruption e) }
 {
     let Some(text) = line.strip_prefix(b"node ") else {
         return Ok(None);
@@ -190,7 +213,10 @@ fn read_bound<R: BufRead>(
     cost: i128,
 ) -> Result<i128, ProofError>
     requires cost { IsLimited cost }
-    ensures { IfOk result (λ g. IsBoundFor cost g × ReadsBehind cursor.old.line.items (bound_text cost g) cursor.new.line.items (R.remaining reader.old) (R.remaining reader.new)) }
+    ensures passed { MatchResult result
+        (λ g. (h : ℤ) (text : List ℕ) → HasBound cost h cursor.old.line.items (R.remaining reader.old) text → (g ≡ h) × IsCurrent cursor.new.line.items (R.remaining reader.new) text)
+        (λ e. (h : ℤ) (text : List ℕ) → HasBound cost h cursor.old.line.items (R.remaining reader.old) text → IsInterruption e) }
+    ensures read { IfOk result (λ g. IsBoundFor cost g × ReadsBehind cursor.old.line.items (bound_text cost g) cursor.new.line.items (R.remaining reader.old) (R.remaining reader.new)) }
 {
     match judge_bound(&cursor.line, cost, cursor.number)? {
         None => Ok(cost),
@@ -203,7 +229,9 @@ fn read_bound<R: BufRead>(
 
 /// The bound that a line states, if it is one of a bound.
 fn judge_bound(line: &[u8], cost: i128, number: u64) -> Result<Option<i128>, ProofError>
-    ensures { IfOk result (λ o. IfSome o (λ g. IsBelow cost g × IsNamed (codes "bound") line.now (g ∷ []))) }
+    ensures { MatchResult result
+        (λ o. MatchOption o ((g : ℤ) → IsNamed (codes "bound") line.now (g ∷ []) → ⊥) (λ g. IsBelow cost g × IsNamed (codes "bound") line.now (g ∷ [])))
+        (λ _. ((g : ℤ) → IsBelow cost g → IsNamed (codes "bound") line.now (g ∷ []) → ⊥) × ((zs : List ℤ) × IsNamed (codes "bound") line.now zs)) }
 {
     match one_number(b"bound", line) {
         None => Ok(None),

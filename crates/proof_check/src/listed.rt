@@ -1,8 +1,8 @@
 //! Pair duals in memory, from the rows that list them.
 
-ghost use Rattle.std.specs.Prelude.{◌≡◌, ◌+◌, ◌-◌, ◌*◌, ◌<◌, ◌≤◌, ◌^◌, All, length, IfOk, IfSome};
+ghost use Rattle.std.specs.Prelude.{◌≡◌, ◌+◌, ◌-◌, ◌*◌, ◌<◌, ◌≤◌, ◌^◌, All, length, IfOk, IfSome, MatchOption, ⊤};
 ghost use Rattle.qap_cost.specs.Placement.{IsPlacement};
-ghost use Rattle.pair_duals.specs.PairDuals.{Fit};
+ghost use Rattle.pair_duals.specs.PairDuals.{Duals, Fit};
 ghost use Rattle.pair_duals.specs.Range.{IsInScale};
 ghost use Rattle.proof_tree.specs.Shape.{ArePairRows, AreLimited};
 ghost use Rattle.proof_tree.specs.Valid.{AreListed};
@@ -23,8 +23,10 @@ pub(crate) fn listed(
 ) -> Result<Option<PairDuals<i128>>, AllocError>
     requires size { instance.now.size ≡ node.now.size }
     requires rows { ArePairRows (node.now.size - length node.now.facilities) (rows_of scale (lists_of rows.now)) }
-    ensures { IfOk result (λ o. IfSome o (λ D. AreListed node.now (rows_of scale (lists_of rows.now)) D × Fit instance.now D × IsInScale wide instance.now scale)) }
+    ensures found { IfOk result (λ o. IfSome o (λ D. AreListed node.now (rows_of scale (lists_of rows.now)) D × Fit instance.now D × IsInScale wide instance.now scale)) }
+    ensures none { IfOk result (λ o. MatchOption o ((D : Duals) → AreListed node.now (rows_of scale (lists_of rows.now)) D → Fit instance.now D → ⊥) (λ _. ⊤)) }
 {
+    instance.instance_law();
     let facilities = node.free_facilities()?;
     let locations = node.free_locations()?;
     let m = facilities.len();

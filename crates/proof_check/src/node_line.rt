@@ -1,8 +1,9 @@
 //! The line of a leaf or a split.
 
-ghost use Rattle.std.specs.Prelude.{◌≡◌, ◌+◌, ◌<◌, ◌≤◌, ◌++◌, ◌∷◌, [], length, pos, codes, IfOk, IfSome};
+ghost use Rattle.std.specs.Prelude.{◌≡◌, ◌+◌, ◌<◌, ◌≤◌, ◌++◌, ◌∷◌, [], ℕ, length, pos, codes, IfErr, IfOk, IfSome, MatchOption};
 ghost use Rattle.qap_lines.specs.LineText.{numbers_text};
 ghost use Rattle.qap_proof.specs.Text.{letter};
+ghost use Rattle.proof_check.specs.Completeness.{HasNoBlank, RefusesNode, RefusesSplit};
 ghost use Rattle.proof_check.specs.Lines.{IsNodeLine, IsSplitLine};
 
 use crate::numbers::limited_numbers;
@@ -38,7 +39,8 @@ pub(crate) fn read_node_line(
 ) -> Result<NodeLine, ProofError>
     requires small { m ≤ 256 }
     requires size { size ≤ 256 }
-    ensures { IfOk result (IsNodeLine m line.now) }
+    ensures found { IfOk result (IsNodeLine m line.now) }
+    ensures refused { IfErr result (RefusesNode m size line.now) }
 {
     match line.first() {
         Some(b'x') => Ok(NodeLine::Leaf(limited_numbers(alloc, b"x", line, m, number)?)),
@@ -83,7 +85,8 @@ fn read_split(
 ) -> Result<SplitLine, ProofError>
     requires small { m ≤ 256 }
     requires size { size ≤ 256 }
-    ensures { IfOk result (λ s. IsSplitLine m line.now s × (s.side ≡ side)) }
+    ensures found { IfOk result (λ s. IsSplitLine m line.now s × (s.side ≡ side)) }
+    ensures refused { IfErr result (RefusesSplit m size side line.now) }
 {
     let Some(heading) = heading_of(line) else {
         return Err(ProofError::BadLine(number));
@@ -112,7 +115,8 @@ struct Heading<'a> {
 }
 
 fn heading_of(line: &[u8]) -> Option<Heading<'_>>
-    ensures { IfSome result (λ h. line.now ≡ h.front.now ++ 32 ∷ h.behind.now) }
+    ensures found { IfSome result (λ h. line.now ≡ h.front.now ++ 32 ∷ h.behind.now) }
+    ensures first { MatchOption result (HasNoBlank line.now) (λ h. (2 ≤ length h.front.now) × HasNoBlank h.front.now) }
 {
     for at in 2..line.len() {
         if line[at] == b' ' {
@@ -128,7 +132,9 @@ fn heading_of(line: &[u8]) -> Option<Heading<'_>>
 /// The facility or location that a name and a number state, counted from 0.
 fn number_of(name: &[u8], text: &[u8], size: usize) -> Option<u16>
     requires { size ≤ 256 }
-    ensures { IfSome result (λ i. (i < size) × (text.now ≡ name.now ++ numbers_text (pos (i + 1) ∷ []))) }
+    ensures { MatchOption result
+        ((i : ℕ) → i < size → text.now ≡ name.now ++ numbers_text (pos (i + 1) ∷ []) → ⊥)
+        (λ i. (i < size) × (text.now ≡ name.now ++ numbers_text (pos (i + 1) ∷ []))) }
 {
     let stated = one_number(name, text)?;
     from_one(stated, size)

@@ -1,8 +1,9 @@
 //! Limited numbers of a line.
 
-ghost use Rattle.std.specs.Prelude.{◌≡◌, ◌++◌, IfOk};
+ghost use Rattle.std.specs.Prelude.{◌≡◌, ◌++◌, IfErr, IfOk};
 ghost use Rattle.qap_lines.specs.LineText.{numbers_text};
 ghost use Rattle.proof_tree.specs.Shape.{AreLimited};
+ghost use Rattle.proof_check.specs.Completeness.{RefusesNumbers};
 
 use qap_lines::read_numbers;
 use qap_proof::ProofError;
@@ -16,7 +17,8 @@ pub(crate) fn limited_numbers(
     m: usize,
     number: u64,
 ) -> Result<Vec<i128>, ProofError>
-    ensures { IfOk result (λ u. AreLimited m u.items × (text.now ≡ name.now ++ numbers_text u.items)) }
+    ensures found { IfOk result (λ u. AreLimited m u.items × (text.now ≡ name.now ++ numbers_text u.items)) }
+    ensures refused { IfErr result (RefusesNumbers m name.now text.now) }
 {
     let mut u = Vec::new(alloc);
     let Some(found) = read_numbers(name, text, m, &mut u)? else {

@@ -1,8 +1,10 @@
 //! Pair duals as lines list them.
 
-ghost use Rattle.std.specs.Prelude.{◌≡◌, ◌^◌, ◌<◌, ◌≤◌, ◌++◌, ◌∷◌, [], drop, pos, codes, IfOk, IfSome, OnOk};
+ghost use Rattle.std.specs.Prelude.{◌≡◌, ◌^◌, ◌<◌, ◌≤◌, ◌++◌, ◌∷◌, [], ℕ, ℤ, List, drop, pos, codes, Some, IfErr, IfOk, MatchOption, MatchResult, OnErr, OnOk};
 ghost use Rattle.qap_lines.specs.LineText.{numbers_text};
 ghost use Rattle.qap_lines.specs.Number.{IsNamed};
+ghost use Rattle.proof_check.specs.Acceptance.{IsInterruption};
+ghost use Rattle.proof_check.specs.Completeness.{BeginsWithRows};
 ghost use Rattle.proof_check.specs.Rows.{ReadsRows, lists_of};
 ghost use Rattle.proof_tree.specs.Shape.{AreLimited};
 
@@ -16,7 +18,9 @@ use std::io::BufRead;
 
 /// The scale that a line states, from 1 to 2^20.
 pub(crate) fn scale_of(line: &[u8]) -> Option<u32>
-    ensures { IfSome result (λ s. (0 < s) × (s ≤ 2 ^ 20) × IsNamed (codes "p") line.now (pos s ∷ [])) }
+    ensures { MatchOption result
+        ((s : ℕ) → 0 < s → s ≤ 2 ^ 20 → IsNamed (codes "p") line.now (pos s ∷ []) → ⊥)
+        (λ s. (0 < s) × (s ≤ 2 ^ 20) × IsNamed (codes "p") line.now (pos s ∷ [])) }
 {
     match one_number(b"p", line) {
         Some(scale) if scale > 0 && scale <= MAX_SCALE as i128 => Some(scale as u32),
@@ -32,7 +36,10 @@ pub(crate) fn read_rows<R: BufRead>(
     m: usize,
 ) -> Result<Vec<Vec<i128>>, ProofError>
     requires { m ≤ 256 }
-    ensures { IfOk result (λ rows. ReadsRows m (lists_of rows.items) (R.remaining reader.old) (R.remaining reader.new)) }
+    ensures read { IfOk result (λ rows. ReadsRows m (lists_of rows.items) (R.remaining reader.old) (R.remaining reader.new)) }
+    ensures passed { MatchResult result
+        (λ rows. (wanted : List (List ℤ)) (rest : List ℕ) → BeginsWithRows m wanted (R.remaining reader.old) rest → (lists_of rows.items ≡ wanted) × (R.remaining reader.new ≡ Some rest))
+        (λ e. (wanted : List (List ℤ)) (rest : List ℕ) → BeginsWithRows m wanted (R.remaining reader.old) rest → IsInterruption e) }
 {
     let width = 2 * m.saturating_sub(1);
     let mut rows = Vec::new(alloc);
@@ -47,7 +54,8 @@ pub(crate) fn read_rows<R: BufRead>(
 /// The numbers of a line, which must be this many, each from -10^24 to 10^24.
 fn read_row(alloc: Global, line: &[u8], number: u64, width: usize) -> Result<Vec<i128>, ProofError>
     requires { width ≤ 512 }
-    ensures { IfOk result (λ row. AreLimited width row.items × (line.now ≡ drop 1 (numbers_text row.items))) }
+    ensures found { IfOk result (λ row. AreLimited width row.items × (line.now ≡ drop 1 (numbers_text row.items))) }
+    ensures refused { IfErr result (λ e. (row : List ℤ) → AreLimited width row → line.now ≡ drop 1 (numbers_text row) → e ≡ ProofError.OutOfMemory) }
 {
     if width == 0 {
         return no_row(alloc, line, number);
@@ -76,7 +84,8 @@ fn push_row(rows: &mut Vec<Vec<i128>>, row: Vec<i128>) -> Result<(), AllocError>
 
 /// The numbers of an empty line.
 fn no_row(alloc: Global, line: &[u8], number: u64) -> Result<Vec<i128>, ProofError>
-    ensures { IfOk result (λ row. AreLimited 0 row.items × (line.now ≡ drop 1 (numbers_text row.items))) }
+    ensures found { IfOk result (λ row. AreLimited 0 row.items × (line.now ≡ drop 1 (numbers_text row.items))) }
+    ensures refused { OnErr result ((row : List ℤ) → AreLimited 0 row → line.now ≡ drop 1 (numbers_text row) → ⊥) }
 {
     if line.is_empty() {
         Ok(Vec::new(alloc))

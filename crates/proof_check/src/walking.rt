@@ -1,7 +1,7 @@
 //! Checks a tree as its lines are read, without storing it: it keeps the reduced form of each node above the current
 //! line, and the pair duals of those that have their own.
 
-ghost use Rattle.std.specs.Prelude.{◌≡◌, ◌+◌, ◌^◌, ◌<◌, ◌≤◌, ℤ, pos, ◌*ℤ◌, Option, None, Some, IsTrue, List, length, false, IfOk, IfSome, OnOk, unsigned_abs};
+ghost use Rattle.std.specs.Prelude.{◌≡◌, ◌≢◌, ◌↔◌, ℕ, ◌+◌, ◌^◌, ◌<◌, ◌≤◌, ℤ, pos, ◌*ℤ◌, Option, None, Some, IsTrue, List, length, false, IfErr, IfOk, MatchBool, MatchOption, OnOk, slice_index, unsigned_abs};
 ghost use Rattle.qap_cost.specs.Instance.{Problem};
 ghost use Rattle.qap_cost.specs.Placement.{IsPlacement, Placement, free_facilities, free_locations};
 ghost use Rattle.qap_cost.specs.Range.{AllLimited};
@@ -12,6 +12,8 @@ ghost use Rattle.pair_duals.specs.Seats.{child_at};
 ghost use Rattle.qap_proof.specs.Cell.{IsPlaceOf};
 ghost use Rattle.proof_tree.specs.Tree.{column_of, row_of};
 ghost use Rattle.proof_tree.specs.Valid.{IsClosed, Under, under};
+ghost use Rattle.proof_check.specs.Acceptance.{IsInterruption};
+ghost use Rattle.proof_check.specs.Completeness.{HasChildren, HasLined, HasOwn, HasSplit, HasTree, Leaves, LeavesOthers};
 ghost use Rattle.proof_check.specs.Judge.{ClosesByLeasts, IsGreatestBelow, IsParent, wide};
 ghost use Rattle.proof_check.specs.Walk.{WalksChild, WalksChildren, WalksLined, WalksSplit, WalksTree};
 
@@ -58,7 +60,8 @@ pub(crate) fn walk_root<R: BufRead>(
     requires size { judge.now.instance.now.size ≡ node.now.size }
     requires placement { IsPlacement node.now }
     requires judge { IsGreatestBelow judge.now.step judge.now.bound judge.now.below }
-    ensures { OnOk result (WalksTree judge.now.instance.now judge.now.step judge.now.bound node.now None cursor.old.line.items (R.remaining reader.old) (R.remaining reader.new)) }
+    ensures passed { Leaves (HasTree judge.now.instance.now judge.now.step judge.now.bound node.now None cursor.old.line.items (R.remaining reader.old)) (R.remaining reader.new) result }
+    ensures walked { OnOk result (WalksTree judge.now.instance.now judge.now.step judge.now.bound node.now None cursor.old.line.items (R.remaining reader.old) (R.remaining reader.new)) }
 {
     if cursor.line.starts_with(b"p") {
         walk_own(reader, judge, node, cursor)
@@ -84,7 +87,8 @@ fn walk_below<R: BufRead>(
     requires in_scale { IsInScale wide judge.now.instance.now duals.now.scale }
     requires form { IsFormOf judge.now.instance.now duals.now node.now form.old }
     requires fresh { form.old.is_lined ≡ false }
-    ensures { OnOk result (WalksTree judge.now.instance.now judge.now.step judge.now.bound node.now (Some (under duals.now form.old)) cursor.old.line.items (R.remaining reader.old) (R.remaining reader.new)) }
+    ensures passed { Leaves (HasTree judge.now.instance.now judge.now.step judge.now.bound node.now (Some (under duals.now form.old)) cursor.old.line.items (R.remaining reader.old)) (R.remaining reader.new) result }
+    ensures walked { OnOk result (WalksTree judge.now.instance.now judge.now.step judge.now.bound node.now (Some (under duals.now form.old)) cursor.old.line.items (R.remaining reader.old) (R.remaining reader.new)) }
 {
     if cursor.line.starts_with(b"p") {
         walk_own(reader, judge, node, cursor)
@@ -104,7 +108,8 @@ fn walk_own<R: BufRead>(
     requires size { judge.now.instance.now.size ≡ node.now.size }
     requires placement { IsPlacement node.now }
     requires judge { IsGreatestBelow judge.now.step judge.now.bound judge.now.below }
-    ensures { (above : Option Under) → OnOk result (WalksTree judge.now.instance.now judge.now.step judge.now.bound node.now above cursor.old.line.items (R.remaining reader.old) (R.remaining reader.new)) }
+    ensures passed { Leaves (HasOwn judge.now.instance.now judge.now.step judge.now.bound node.now cursor.old.line.items (R.remaining reader.old)) (R.remaining reader.new) result }
+    ensures walked { (above : Option Under) → OnOk result (WalksTree judge.now.instance.now judge.now.step judge.now.bound node.now above cursor.old.line.items (R.remaining reader.old) (R.remaining reader.new)) }
 {
     let number = cursor.number;
     let Some(scale) = scale_of(&cursor.line) else {
@@ -138,7 +143,8 @@ fn walk_lined<R: BufRead>(
     requires in_scale { IsInScale wide judge.now.instance.now duals.now.scale }
     requires form { IsFormOf judge.now.instance.now duals.now node.now form.old }
     requires fresh { form.old.is_lined ≡ false }
-    ensures { OnOk result (WalksLined judge.now.instance.now judge.now.step judge.now.bound node.now (under duals.now form.old) cursor.old.line.items (R.remaining reader.old) (R.remaining reader.new)) }
+    ensures passed { Leaves (HasLined judge.now.instance.now judge.now.step judge.now.bound node.now (under duals.now form.old) cursor.old.line.items (R.remaining reader.old)) (R.remaining reader.new) result }
+    ensures walked { OnOk result (WalksLined judge.now.instance.now judge.now.step judge.now.bound node.now (under duals.now form.old) cursor.old.line.items (R.remaining reader.old) (R.remaining reader.new)) }
 {
     let number = cursor.number;
     let line = read_node_line(judge.alloc, &cursor.line, number, form.free(), node.size())?;
@@ -176,7 +182,8 @@ fn walk_split<'a, R: BufRead>(
     requires in_scale { IsInScale wide judge.now.instance.now duals.now.scale }
     requires form { IsFormOf judge.now.instance.now duals.now node.now form.now }
     requires marks { length split.now.marks.items + length node.now.facilities ≡ node.now.size }
-    ensures { OnOk result (WalksSplit judge.now.instance.now judge.now.step judge.now.bound node.now (under duals.now form.now) split.now.side split.now.number split.now.marks.items (R.remaining reader.old) (R.remaining reader.new)) }
+    ensures passed { Leaves (HasSplit judge.now.instance.now judge.now.step judge.now.bound node.now (under duals.now form.now) split.now.side split.now.number split.now.marks.items (R.remaining reader.old)) (R.remaining reader.new) result }
+    ensures walked { OnOk result (WalksSplit judge.now.instance.now judge.now.step judge.now.bound node.now (under duals.now form.now) split.now.side split.now.number split.now.marks.items (R.remaining reader.old) (R.remaining reader.new)) }
 {
     let facilities = node.free_facilities()?;
     let locations = node.free_locations()?;
@@ -215,7 +222,8 @@ fn walk_children<R: BufRead>(
     requires judge { IsGreatestBelow judge.now.step judge.now.bound judge.now.below }
     requires parent { IsParent judge.now.instance.now judge.now.below parent.now.split.node.now (under parent.now.duals.now parent.now.form.now) parent.now.split.facilities.now parent.now.split.locations.now parent.now.split.side parent.now.split.own parent.now.threshold }
     requires marks { length marks.now + length parent.now.split.node.now.facilities ≡ parent.now.split.node.now.size }
-    ensures { OnOk result (WalksChildren judge.now.instance.now judge.now.step judge.now.bound parent.now.split.node.now (under parent.now.duals.now parent.now.form.now) parent.now.split.side parent.now.split.own (length marks.now) marks.now (R.remaining reader.old) (R.remaining reader.new)) }
+    ensures passed { Leaves (HasChildren judge.now.instance.now judge.now.step judge.now.bound parent.now.split.node.now (under parent.now.duals.now parent.now.form.now) parent.now.split.side parent.now.split.own 0 marks.now (R.remaining reader.old)) (R.remaining reader.new) result }
+    ensures walked { OnOk result (WalksChildren judge.now.instance.now judge.now.step judge.now.bound parent.now.split.node.now (under parent.now.duals.now parent.now.form.now) parent.now.split.side parent.now.split.own (length marks.now) marks.now (R.remaining reader.old) (R.remaining reader.new)) }
 {
     let mut below = Reduced::empty(judge.alloc);
     for child in 0..marks.len() {
@@ -246,7 +254,8 @@ fn walk_marked<R: BufRead>(
     requires judge { IsGreatestBelow judge.now.step judge.now.bound judge.now.below }
     requires parent { IsParent judge.now.instance.now judge.now.below parent.now.split.node.now (under parent.now.duals.now parent.now.form.now) parent.now.split.facilities.now parent.now.split.locations.now parent.now.split.side parent.now.split.own parent.now.threshold }
     requires child { child + length parent.now.split.node.now.facilities < parent.now.split.node.now.size }
-    ensures { OnOk result (WalksChild judge.now.instance.now judge.now.step judge.now.bound parent.now.split.node.now (under parent.now.duals.now parent.now.form.now) parent.now.split.side parent.now.split.own child mark (R.remaining reader.old) (R.remaining reader.new)) }
+    ensures passed { LeavesOthers judge.now.instance.now judge.now.step judge.now.bound parent.now.split.node.now (under parent.now.duals.now parent.now.form.now) parent.now.split.side parent.now.split.own child mark (R.remaining reader.old) (R.remaining reader.new) result }
+    ensures walked { OnOk result (WalksChild judge.now.instance.now judge.now.step judge.now.bound parent.now.split.node.now (under parent.now.duals.now parent.now.form.now) parent.now.split.side parent.now.split.own child mark (R.remaining reader.old) (R.remaining reader.new)) }
 {
     if mark == b'.' {
         check_closed(judge, parent, child, below)?;
@@ -271,10 +280,11 @@ fn walk_child<R: BufRead>(
     requires judge { IsGreatestBelow judge.now.step judge.now.bound judge.now.below }
     requires parent { IsParent judge.now.instance.now judge.now.below parent.now.split.node.now (under parent.now.duals.now parent.now.form.now) parent.now.split.facilities.now parent.now.split.locations.now parent.now.split.side parent.now.split.own parent.now.threshold }
     requires child { child + length parent.now.split.node.now.facilities < parent.now.split.node.now.size }
-    ensures { OnOk result (WalksChild judge.now.instance.now judge.now.step judge.now.bound parent.now.split.node.now (under parent.now.duals.now parent.now.form.now) parent.now.split.side parent.now.split.own child 43 (R.remaining reader.old) (R.remaining reader.new)) }
+    ensures passed { LeavesOthers judge.now.instance.now judge.now.step judge.now.bound parent.now.split.node.now (under parent.now.duals.now parent.now.form.now) parent.now.split.side parent.now.split.own child 43 (R.remaining reader.old) (R.remaining reader.new) result }
+    ensures walked { OnOk result (WalksChild judge.now.instance.now judge.now.step judge.now.bound parent.now.split.node.now (under parent.now.duals.now parent.now.form.now) parent.now.split.side parent.now.split.own child 43 (R.remaining reader.old) (R.remaining reader.new)) }
 {
     advance(reader, cursor)?;
-    if cursor.line.starts_with(b"m") || cursor.line.starts_with(b"g") {
+    if begins_image(&cursor.line) {
         return judge_image(
             judge.alloc,
             judge.instance,
@@ -292,6 +302,16 @@ fn walk_child<R: BufRead>(
     walk_below(reader, judge, &node, parent.duals, below, cursor)
 }
 
+/// Whether a line begins as one of a symmetric image; the first line of a tree does not.
+fn begins_image(line: &[u8]) -> bool
+    ensures { MatchBool result (slice_index line.now 0 ≤ 109) ((slice_index line.now 0 ≢ 109) × (slice_index line.now 0 ≢ 103)) }
+{
+    match line.first() {
+        Some(b'm') | Some(b'g') => true,
+        _ => false,
+    }
+}
+
 /// Makes sure that a child reaches the bound without a text.
 fn check_closed(
     judge: &Judge<'_>,
@@ -302,7 +322,8 @@ fn check_closed(
     requires judge { IsGreatestBelow judge.now.step judge.now.bound judge.now.below }
     requires parent { IsParent judge.now.instance.now judge.now.below parent.now.split.node.now (under parent.now.duals.now parent.now.form.now) parent.now.split.facilities.now parent.now.split.locations.now parent.now.split.side parent.now.split.own parent.now.threshold }
     requires child { child + length parent.now.split.node.now.facilities < parent.now.split.node.now.size }
-    ensures { OnOk result (IsClosed judge.now.instance.now judge.now.step judge.now.bound (under parent.now.duals.now parent.now.form.now) (row_of parent.now.split.side parent.now.split.own child) (column_of parent.now.split.side parent.now.split.own child)) }
+    ensures refused { IfErr result (λ e. IsClosed judge.now.instance.now judge.now.step judge.now.bound (under parent.now.duals.now parent.now.form.now) (row_of parent.now.split.side parent.now.split.own child) (column_of parent.now.split.side parent.now.split.own child) → IsInterruption e) }
+    ensures closed { OnOk result (IsClosed judge.now.instance.now judge.now.step judge.now.bound (under parent.now.duals.now parent.now.form.now) (row_of parent.now.split.side parent.now.split.own child) (column_of parent.now.split.side parent.now.split.own child)) }
 {
     let (h, g) = cell(&parent.split, child);
     if parent.form.prunes(h, g, parent.threshold) {
@@ -324,7 +345,7 @@ fn closes_trivially(
     form: &Reduced<i128>,
     threshold: i128,
 ) -> Result<bool, AllocError>
-    ensures { IfOk result (λ b. IsTrue b → ClosesByLeasts form.now threshold) }
+    ensures { IfOk result (λ b. IsTrue b ↔ ClosesByLeasts form.now threshold) }
 {
     let mut u = zeros(alloc, form.free())?;
     let mut v = zeros(alloc, form.free())?;
@@ -364,7 +385,7 @@ fn threshold(judge: &Judge<'_>, duals: &PairDuals<i128>) -> i128
 
 /// The place of a number in a list.
 fn place_of(list: &[u16], number: u16) -> Option<usize>
-    ensures { IfSome result (IsPlaceOf list.now number) }
+    ensures { MatchOption result ((place : ℕ) → IsPlaceOf list.now number place → ⊥) (IsPlaceOf list.now number) }
 {
     for place in 0..list.len() {
         if list[place] == number {

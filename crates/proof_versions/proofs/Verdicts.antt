@@ -1,12 +1,12 @@
 -- What a text of version 2 shows is so.
 use Rattle.std.proofs.Common.{◌≡◌, ◌⊎◌, ◌∙◌, ℕ, List, ℤ, Err, Ok, Result, ap, inl, inr, refl, subst, sym}
-use Rattle.std.specs.Prelude.{MatchOption, MatchResult, None, Option, Some}
+use Rattle.std.specs.Prelude.{IfErr, IfOk, MatchOption, MatchResult, None, Option, Some}
 use Rattle.qap_cost.specs.Instance.{Problem}
 use Rattle.qap_cost.specs.Placement.{Placement}
 use Rattle.qap_cost.specs.Range.{IsLimited}
 use Rattle.pair_duals.proofs.CostSteps.{step-divides}
-use Rattle.qap_proof.specs.Acceptance.{IsLimitedVerdict, IsRefused, IsSo, ProvesFor}
-use Rattle.qap_proof.specs.Cover.{CoverValue, Establishes, IsAdmitted}
+use Rattle.qap_proof.specs.Acceptance.{IsLimitedVerdict, IsRefused, IsSo, ProvesFor, ShowsVerdict}
+use Rattle.qap_proof.specs.Cover.{CoverValue, Establishes, HasPart, IsAdmitted}
 use Rattle.qap_proof.specs.OverRoot.{ProvesForAnother}
 use Rattle.qap_proof.specs.declared.error.ProofError.{ProofError}
 use Rattle.qap_proof.specs.declared.error.ProofError.TheVariants.{OutOfMemory}
@@ -18,9 +18,18 @@ use Rattle.proof_check.specs.Acceptance.{IsPairVerdictOf, ShowsPairVerdict}
 use Rattle.proof_tree.proofs.Validity.{Proves-NoneCompletesForLess}
 use Rattle.proof_tree.specs.Claim.{IsPairProof, PairClaim, PairProves}
 use Rattle.qap_proof.specs.Claim.{NoneCompletesForLess}
-use Rattle.proof_versions.specs.Adding.{HasPairPart}
+use Rattle.proof_versions.specs.Adding.{HasEitherPart, HasPairPart}
 use Rattle.proof_versions.specs.OverRoot.{EitherProvesFor, EitherProvesForAnother, PairProvesFor}
-use Rattle.proof_versions.specs.Versions.{EitherIsRefused, EitherIsSo}
+use Rattle.proof_versions.specs.Versions.{EitherIsRefused, EitherIsSo, EitherShows, RefusesNoPairs, StatesVersionTwo}
+use Rattle.proof_versions.proofs.Fronts.{behind_version, pair_proof_parts}
+
+-- the text of a proof states version 2
+pub states_version : (I : Problem) (text : List ℕ) (v : Verdict) → ShowsPairVerdict I text v → StatesVersionTwo text
+states_version I text v h = (behind_version h.proof, h.is_text.is ∙ pair_proof_parts h.proof)
+
+-- what keeps another text from being a proof of version 1 keeps it from being one
+pub EitherIsRefused-first : (I : Problem) (text : List ℕ) (e : ProofError) → (StatesVersionTwo text → ⊥) → IsRefused I text e → EitherIsRefused I text e
+EitherIsRefused-first I text e other refused = (λ v shows. absurd (other (states_version I text v shows)), inr refused)
 
 -- what version 1 says is so is so
 pub EitherIsSo-first : (I : Problem) (text : List ℕ) (v : Verdict) → IsSo I text v → EitherIsSo I text v
@@ -71,10 +80,29 @@ HasPairPart-admitted I old new text x c g here h added = record {
 }
 
 -- what version 1 shows over a root, either does
-pub over_root-first : (I : Problem) (text : List ℕ) (x : Placement) (r : Result (Option Stated) ProofError)
+pub over_root-first : (I : Problem) (text : List ℕ) (x : Placement) (r : Result (Option Stated) ProofError) → (StatesVersionTwo text → ⊥)
     → MatchResult r (λ found. MatchOption found (ProvesForAnother I text x) (λ s. ProvesFor I text x s.cost s.bound)) (λ e. (e ≡ OutOfMemory) ⊎ IsRefused I text e)
     → MatchResult r (λ found. MatchOption found (EitherProvesForAnother I text x) (λ s. EitherProvesFor I text x s.cost s.bound)) (λ e. (e ≡ OutOfMemory) ⊎ EitherIsRefused I text e)
-over_root-first I text x (Ok None) h = record { other = h.other; cost = h.cost; bound = h.bound; proves = inl h.proves; differs = h.differs }
-over_root-first I text x (Ok (Some s)) h = inl h
-over_root-first I text x (Err e) (inl memory) = inl memory
-over_root-first I text x (Err e) (inr refused) = inr (inr refused)
+over_root-first I text x (Ok None) other h = record { other = h.other; cost = h.cost; bound = h.bound; proves = inl h.proves; differs = h.differs }
+over_root-first I text x (Ok (Some s)) other h = inl h
+over_root-first I text x (Err e) other (inl memory) = inl memory
+over_root-first I text x (Err e) other (inr refused) = inr (EitherIsRefused-first I text e other refused)
+
+-- what it shows of a whole
+pub shows-first : (I : Problem) (text : List ℕ) (r : Result Verdict ProofError) → (StatesVersionTwo text → ⊥) → MatchResult r (ShowsVerdict I text) (λ e. (e ≡ OutOfMemory) ⊎ IsRefused I text e)
+    → MatchResult r (EitherShows I text) (λ e. (e ≡ OutOfMemory) ⊎ EitherIsRefused I text e)
+shows-first I text (Ok v) other h = inl h
+shows-first I text (Err e) other (inl memory) = inl memory
+shows-first I text (Err e) other (inr refused) = inr (EitherIsRefused-first I text e other refused)
+
+-- what it adds
+pub adds-first : {T : Type 0} (I : Problem) (text : List ℕ) (old new : CoverValue) (r : Result T ProofError) → (StatesVersionTwo text → ⊥) → MatchResult r (λ _. HasPart text old new) (λ e. ((e ≡ OutOfMemory) ⊎ IsRefused I text e) × (new ≡ old))
+    → MatchResult r (λ _. HasEitherPart text old new) (λ e. ((e ≡ OutOfMemory) ⊎ EitherIsRefused I text e) × (new ≡ old))
+adds-first I text old new (Ok x) other h = inl h
+adds-first I text old new (Err e) other (inl memory, kept) = (inl memory, kept)
+adds-first I text old new (Err e) other (inr refused, kept) = (inr (EitherIsRefused-first I text e other refused), kept)
+
+-- what version 2 shows of a whole
+pub shows-pairs : (I : Problem) (text : List ℕ) (r : Result Verdict ProofError) → StatesVersionTwo text → IfOk r (ShowsPairVerdict I text) → IfErr r (RefusesNoPairs I text) → MatchResult r (EitherShows I text) (λ e. (e ≡ OutOfMemory) ⊎ EitherIsRefused I text e)
+shows-pairs I text (Ok v) two shows refused = inr shows
+shows-pairs I text (Err e) two shows refused = inr (refused, inl two)

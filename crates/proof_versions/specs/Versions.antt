@@ -11,7 +11,7 @@ use Rattle.qap_proof.specs.declared.acceptance.Verdict.{Verdict}
 use Rattle.qap_proof.specs.declared.acceptance.Verdict.TheVariants.{Gap, Optimal, Part}
 use Rattle.qap_proof.specs.declared.error.ProofError.{ProofError}
 use Rattle.proof_tree.specs.Claim.{IsPairProofText, PairClaim}
-use Rattle.proof_check.specs.Acceptance.{ShowsPairVerdict}
+use Rattle.proof_check.specs.Acceptance.{IsInterruption, ShowsPairVerdict}
 
 -- the text begins with the line that states version 2
 abbrev pub StatesVersionTwo : List ℕ → Type 0
@@ -33,6 +33,11 @@ EitherIsSo I text (Optimal c) = IsLeast I c
 EitherIsSo I text (Gap g c) = ((p : List ℕ) × Permutes I p × (cost_of I p ≡ c)) × NoneCostsLess I g × (g <ℤ c)
 EitherIsSo I text (Part g) = (x : Placement) × EitherHasRoot text x × NoneCompletesForLess I x g
 
--- the first fault of a text that does not state version 2, or of the proof of version 1 that it is; of a text that does, any
+-- a text of a proof with pair duals that establishes a verdict is refused only because memory ran out or the reader failed
+abbrev pub RefusesNoPairs : Problem → List ℕ → ProofError → Type 0
+RefusesNoPairs I text e = (v : Verdict) → ShowsPairVerdict I text v → IsInterruption e
+
+-- of a text that states version 2, any fault that is none of such a proof; of another text the first fault, or that of the proof of
+-- version 1 that it is
 abbrev pub EitherIsRefused : Problem → List ℕ → ProofError → Type 0
-EitherIsRefused I text e = StatesVersionTwo text ⊎ IsRefused I text e
+EitherIsRefused I text e = RefusesNoPairs I text e × (StatesVersionTwo text ⊎ IsRefused I text e)

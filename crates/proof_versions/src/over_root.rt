@@ -1,9 +1,9 @@
 //! Checks texts of proofs in both versions over a known root.
 
-ghost use Rattle.std.specs.Prelude.{◌≡◌, ◌⊎◌, ◌↔◌, IsTrue, IfOk, IfSome, MatchOption, MatchResult};
+ghost use Rattle.std.specs.Prelude.{◌≡◌, ◌⊎◌, ◌↔◌, IsTrue, IfErr, IfOk, IfSome, MatchOption, MatchResult};
 ghost use Rattle.qap_proof.specs.Claim.{NoneCompletesForLess};
 ghost use Rattle.proof_versions.specs.OverRoot.{EitherProvesFor, EitherProvesForAnother, PairProvesFor};
-ghost use Rattle.proof_versions.specs.Versions.{EitherIsRefused};
+ghost use Rattle.proof_versions.specs.Versions.{EitherIsRefused, RefusesNoPairs};
 
 use crate::pairs::{accept_pairs, states_version_two};
 use crate::part::part_stated;
@@ -55,7 +55,8 @@ pub(crate) fn pair_stated(
     instance: &Instance,
     text: &[u8],
 ) -> Result<PairStated, ProofError>
-    ensures { IfOk result (λ s. PairProvesFor instance.now text.now s.root s.cost s.bound) }
+    ensures proves { IfOk result (λ s. PairProvesFor instance.now text.now s.root s.cost s.bound) }
+    ensures refused { IfErr result (RefusesNoPairs instance.now text.now) }
 {
     let size = instance.size();
     match accept_pairs(alloc, instance, text)? {

@@ -1,11 +1,11 @@
 //! Texts of version 2.
 
-ghost use Rattle.std.specs.Prelude.{◌≡◌, ◌⊎◌, ◌↔◌, IsTrue, IfOk, MatchResult};
+ghost use Rattle.std.specs.Prelude.{◌≡◌, ◌⊎◌, ◌↔◌, IsTrue, IfErr, IfOk, MatchResult};
 ghost use Rattle.pair_duals.specs.CostStep.{step_of};
 ghost use Rattle.proof_check.specs.Acceptance.{ShowsPairVerdict};
 ghost use Rattle.qap_proof.specs.Acceptance.{IsLimitedVerdict};
-ghost use Rattle.proof_versions.specs.Versions.{StatesVersionTwo};
-ghost use Rattle.proof_versions.specs.Streams.{StreamShows};
+ghost use Rattle.proof_versions.specs.Versions.{RefusesNoPairs, StatesVersionTwo};
+ghost use Rattle.proof_versions.specs.Streams.{StreamRefuses, StreamShows};
 
 use pair_duals::cost_step;
 use proof_check::accept;
@@ -29,7 +29,8 @@ pub fn states_version_two(text: &[u8]) -> bool
 
 /// What all that a reader has left establishes about an instance's costs, if it is the text of a proof of version 2 which
 /// proves its bound for it. The text is checked as it is read: only the forms of the nodes above the current line, and
-/// the pair duals in force there, are in memory. The first fault that was found is reported.
+/// the pair duals in force there, are in memory. The first fault that was found is reported;
+/// the text of a proof which proves its bound has none.
 pub fn accept_stream<R: BufRead>(
     alloc: Global,
     instance: &Instance,
@@ -37,6 +38,7 @@ pub fn accept_stream<R: BufRead>(
 ) -> Result<Verdict, ProofError>
     ensures shown { IfOk result (StreamShows instance.now (R.remaining reader.old)) }
     ensures bounded { IfOk result IsLimitedVerdict }
+    ensures refused { IfErr result (StreamRefuses instance.now (R.remaining reader.old)) }
 {
     accept(alloc, instance, step(instance), reader)
 }
@@ -47,7 +49,8 @@ pub(crate) fn accept_pairs(
     instance: &Instance,
     text: &[u8],
 ) -> Result<Verdict, ProofError>
-    ensures { IfOk result (ShowsPairVerdict instance.now text.now) }
+    ensures shown { IfOk result (ShowsPairVerdict instance.now text.now) }
+    ensures refused { IfErr result (RefusesNoPairs instance.now text.now) }
 {
     let mut reader = text;
     accept(alloc, instance, step(instance), &mut reader)

@@ -1,6 +1,7 @@
 //! What a text of version 2 over a root states before its tree.
 
-ghost use Rattle.std.specs.Prelude.{◌≡◌, ◌<◌, ◌≤◌, ◌++◌, IfOk, IfSome};
+ghost use Rattle.std.specs.Prelude.{◌≡◌, ◌<◌, ◌≤◌, ◌++◌, length, IfOk, IfSome, MatchOption, ⊤};
+ghost use Rattle.qap_cost.specs.Placement.{Placement};
 ghost use Rattle.qap_proof.specs.Claim.{IsRoot};
 ghost use Rattle.proof_tree.specs.Claim.{IsPairProofText, PairClaim};
 ghost use Rattle.proof_versions.specs.Part.{BeginsWithRoot, IsPartStated, behind_permutation};
@@ -32,7 +33,8 @@ pub(crate) fn part_stated(
 ) -> Result<Option<PartStated>, AllocError>
     requires positive { 0 < size }
     requires small { size ≤ 256 }
-    ensures { IfOk result (λ found. IfSome found (λ s. IsPartStated text.now size s.root s.cost)) }
+    ensures stated { IfOk result (λ found. IfSome found (λ s. IsPartStated text.now size s.root s.cost)) }
+    ensures none { IfOk result (λ found. MatchOption found ((C : PairClaim) → IsPairProofText text.now C → length C.permutation ≡ size → 0 < length C.root.facilities → ⊥) (λ _. ⊤)) }
 {
     let Some(behind) = behind_four(text) else {
         return Ok(None);
@@ -48,7 +50,9 @@ pub(crate) fn part_stated(
 
 /// What follows four lines, the third of which states a cost.
 fn behind_four(text: &[u8]) -> Option<Behind<'_>>
-    ensures { IfSome result (λ b. (C : PairClaim) → IsPairProofText text.now C → (C.cost ≡ b.cost) × (b.rest.now ≡ behind_permutation C)) }
+    ensures { MatchOption result
+        ((C : PairClaim) → IsPairProofText text.now C → ⊥)
+        (λ b. (C : PairClaim) → IsPairProofText text.now C → (C.cost ≡ b.cost) × (b.rest.now ≡ behind_permutation C)) }
 {
     let version = first_line(text)?;
     let size = first_line(version.rest)?;
@@ -64,13 +68,17 @@ fn behind_four(text: &[u8]) -> Option<Behind<'_>>
 fn root_at_front(alloc: Global, text: &[u8], size: usize) -> Result<Option<Partial>, AllocError>
     requires positive { 0 < size }
     requires small { size ≤ 256 }
-    ensures { IfOk result (λ found. IfSome found (BeginsWithRoot text.now size)) }
+    ensures begins { IfOk result (λ found. IfSome found (BeginsWithRoot text.now size)) }
+    ensures none { IfOk result (λ found. MatchOption found ((x : Placement) → BeginsWithRoot text.now size x → 0 < length x.facilities → ⊥) (λ _. ⊤)) }
 {
     let Some(line) = first_line(text) else {
         return Ok(None);
     };
-    match line.bytes.strip_prefix(b"node ") {
-        Some(node) if !node.is_empty() => read_node_text(alloc, node, size),
-        _ => Ok(None),
+    let Some(node) = line.bytes.strip_prefix(b"node ") else {
+        return Ok(None);
+    };
+    if node.is_empty() {
+        return Ok(None);
     }
+    read_node_text(alloc, node, size)
 }

@@ -13,9 +13,9 @@ use Rattle.qap_text.specs.declared.error.TextError.{TextError}
 use Rattle.qap_text.specs.declared.error.TextError.TheVariants.{Empty, NotANumber, SizeZero, SizeTooLarge, EntryRange, CountDiffers, SizeDiffers, NotPermutation, ValueRange, InputTooLong, OutOfMemory as TextMemory, Device}
 use Rattle.proof_versions.specs.Versions.{StatesVersionTwo}
 use Rattle.proof_versions.specs.Streams.{StreamShows}
-use Rattle.proof_versions.proofs.Streams.{longer}
+use Rattle.proof_versions.proofs.Streams.{begun}
 use Rattle.qap_verify.specs.Answering.{Proves}
-use Rattle.qap_verify.specs.Refusal.{HasNoTexts, IsNoProof, IsOfProof}
+use Rattle.qap_verify.specs.Refusal.{HasNoTexts, IsNoProof, RefusesStream}
 use Rattle.qap_verify.specs.Texts.{Inputs, Yields}
 use Rattle.qap_verify.specs.declared.refusal.VerifyError.{VerifyError}
 use Rattle.qap_verify.specs.declared.refusal.VerifyError.TheVariants.{OutOfMemory}
@@ -53,13 +53,6 @@ fault_of remaining count limit old mid new front (SizeDiffers k) room first h = 
 fault_of remaining count limit old mid new front (NotPermutation k) room first h = h
 fault_of remaining count limit old mid new front (ValueRange k) room first h = h
 
--- all that a reader had, if its front states version 2
-pub begun : (known rest : Option (List ℕ)) (front : List ℕ) → Consumes known rest front → StatesVersionTwo front
-    → (text : List ℕ) × IfSome known (λ xs. xs ≡ text) × StatesVersionTwo text
-begun None rest front consumed two = (front, tt, two)
-begun (Some xs) None front consumed two = absurd consumed
-begun (Some xs) (Some ys) front consumed two = (xs, refl, subst StatesVersionTwo (sym consumed) (longer front ys two))
-
 -- the front and all that was behind it are all that the reader had
 pub all_of : (known rest : Option (List ℕ)) (front text : List ℕ) → Consumes known rest front
     → IfSome (prepend_known front rest) (λ xs. xs ≡ text) → IfSome known (λ xs. xs ≡ text)
@@ -70,7 +63,7 @@ all_of (Some xs) (Some ys) front text consumed whole = consumed ∙ whole
 -- what a text shows of which the front had been read when the rest was checked as it was read
 pub yields_of : {R S : Type 0} (i : Inputs R S) (I : Problem) (rest : List ℕ) (later : Option (List ℕ)) (front : List ℕ) (r : Result Verdict VerifyError)
     → HasInstance i.first I rest → Consumes (i.second.bytes i.second.before.inner) later front → StatesVersionTwo front
-    → MatchResult r (StreamShows I (prepend_known front later)) IsOfProof
+    → MatchResult r (StreamShows I (prepend_known front later)) (RefusesStream I (prepend_known front later))
     → MatchResult r (Yields i Proves) (λ e. HasNoTexts i e ⊎ Yields i IsNoProof e)
 yields_of i I rest later front (Ok v) found consumed two h = inr (record {
   problem = I;
@@ -84,16 +77,16 @@ yields_of i I rest later front (Ok v) found consumed two h = inr (record {
   holds = (inr h.shows, h.so);
 })
 yields_of i I rest later front (Err e) found consumed two h =
-    let begun = begun (i.second.bytes i.second.before.inner) later front consumed two in
+    let b = begun I (i.second.bytes i.second.before.inner) later front h.0 consumed two h.2 in
     inr (inr (record {
       problem = I;
-      text = begun.0;
-      texts = record { rest = rest; instance_read = found; version = begun.2; whole = begun.1 };
-      holds = (h.0, h.1, inl begun.2);
+      text = b.text;
+      texts = record { rest = rest; instance_read = found; version = b.version; whole = b.whole };
+      holds = (h.0, h.1, (b.refuses, inl b.version));
     }))
 
 -- memory that runs out when the verdict is known
 pub without_memory : {R S : Type 0} (i : Inputs R S) (v : Verdict) (e : VerifyError) → Yields i Proves v → e ≡ OutOfMemory → HasNoTexts i e ⊎ Yields i IsNoProof e
 without_memory i v e (inl come) is = inl (wants_memory i come.problem come.text e come.texts is)
 without_memory i v e (inr come) is =
-    inr (inr (record { problem = come.problem; text = come.text; texts = come.texts; holds = (ProofMemory, is, inl come.texts.version) }))
+    inr (inr (record { problem = come.problem; text = come.text; texts = come.texts; holds = (ProofMemory, is, ((λ v shows. inl refl), inl come.texts.version)) }))

@@ -1,11 +1,12 @@
 -- Why a run yields no verdict, and how that is reported.
-use Rattle.std.specs.Prelude.{◌≡◌, ℕ, ◌⊎◌, List}
+use Rattle.std.specs.Prelude.{◌≡◌, ℕ, ◌⊎◌, List, Option}
 use Rattle.qap_cost.specs.Instance.{Problem}
 use Rattle.qap_io.specs.Refusal.{RefusalText, memory_refusal, device_refusal}
 use Rattle.qap_proof.specs.Acceptance.{IsRefused}
 use Rattle.qap_proof.specs.Refusal.{proof_refusal}
 use Rattle.qap_proof.specs.declared.error.ProofError.{ProofError}
 use Rattle.qap_proof.specs.declared.error.ProofError.TheVariants.{OutOfMemory as ProofMemory, Device as ProofDevice}
+use Rattle.proof_versions.specs.Streams.{StreamRefuses}
 use Rattle.proof_versions.specs.Versions.{EitherIsRefused}
 use Rattle.qap_text.specs.Input.{HasInstance, HasNoInstance, max_input}
 use Rattle.qap_text.specs.Refusal.{text_refusal}
@@ -28,9 +29,9 @@ of_proof ProofMemory = OutOfMemory
 of_proof ProofDevice = Device
 of_proof e = Proof e
 
--- the run's error is that for some fault of a proof
-abbrev pub IsOfProof : VerifyError → Type 0
-IsOfProof e = (fault : ProofError) × (e ≡ of_proof fault)
+-- the run's error is that for some fault of a proof, which is none where these bytes are known and are the text of a proof with pair duals
+abbrev pub RefusesStream : Problem → Option (List ℕ) → VerifyError → Type 0
+RefusesStream I known e = (fault : ProofError) × (e ≡ of_proof fault) × StreamRefuses I known fault
 
 -- the first input does not begin with an instance, and the proof was not read
 pub record NoInstance {R S : Type 0} (i : Inputs R S) (e : VerifyError) : Type 0 where

@@ -8,7 +8,7 @@ ghost use Rattle.qap_text.specs.Input.{input_of};
 ghost use Rattle.proof_versions.specs.Streams.{StreamShows};
 ghost use Rattle.qap_verify.specs.Answering.{HasAnswered, HasNotAnswered, Proves, answer_line};
 ghost use Rattle.qap_verify.specs.Parts.{HasAdded, HasNotAdded, HasNotShown, HasShown};
-ghost use Rattle.qap_verify.specs.Refusal.{HasNoTexts, IsNoProof, IsNoWhole, IsOfProof};
+ghost use Rattle.qap_verify.specs.Refusal.{HasNoTexts, IsNoProof, IsNoWhole, RefusesStream};
 ghost use Rattle.qap_verify.specs.Texts.{ComeTo, HasTexts, Yields, inputs_of};
 
 use crate::refusal::VerifyError;
@@ -127,7 +127,7 @@ fn streamed<S: Read>(
 ) -> Result<Verdict, VerifyError>
     ensures shown { MatchResult result
         (StreamShows instance.now (prepend_known front.now (S.remaining proof.old.inner)))
-        IsOfProof }
+        (RefusesStream instance.now (prepend_known front.now (S.remaining proof.old.inner))) }
     ensures bounded { IfOk result IsLimitedVerdict }
 {
     let Ok(rest) = BufReader::new(alloc, proof) else {

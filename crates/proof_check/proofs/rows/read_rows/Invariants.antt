@@ -1,5 +1,8 @@
 use Rattle.proof_check.specs.Rows.{HasRows, lists_of}
+use Rattle.proof_check.proofs.RowLists.{HasPassed}
 use Rattle.proof_check.proofs.rows.read_rows.Given as goal
 
 abbrev pub invariant-loop : goal.invariant-loop
-invariant-loop g l = HasRows l.width l.counter (lists_of l.rows.items) (g.R.Read.remaining l.fn.reader) (g.R.Read.remaining l.reader)
+invariant-loop g l =
+    HasRows l.width l.counter (lists_of l.rows.items) (g.R.Read.remaining l.fn.reader) (g.R.Read.remaining l.reader)
+    × HasPassed l.m l.counter (lists_of l.rows.items) (g.R.Read.remaining l.fn.reader) (g.R.Read.remaining l.reader)

@@ -1,32 +1,45 @@
-use Rattle.std.proofs.Common.{◌≡◌, ℕ, ◌+◌, ◌-◌, ◌*◌, ◌<◌, ◌++◌, ◌∷◌, [], List, length, get_or, ℤ, pos, refl, sym, ◌∙◌, ap, ap₂, subst, arith, length-append}
-use Rattle.std.specs.Prelude.{codes, Some}
+use Rattle.std.proofs.Common.{◌≡◌, ◌≢◌, ℕ, ◌+◌, ◌-◌, ◌*◌, ◌<◌, ◌≤◌, ◌++◌, ◌∷◌, [], List, length, get_or, ℤ, pos, refl, sym, ◌∙◌, ap, ap₂, subst, arith, length-append}
+use Rattle.std.specs.Prelude.{codes, IfErr, Some}
 use Rattle.std.specs.Global.{Vec}
+use Rattle.std.proofs.lemmas.Bool.{false≢true}
 use Rattle.std.proofs.lemmas.Int.{ints}
-use Rattle.qap_cost.specs.Placement.{Placement, IsPlacement, free_facilities}
+use Rattle.std.proofs.lemmas.Result.{err_from_is_err_and}
+use Rattle.qap_cost.specs.Placement.{Placement, IsPlacement, free_facilities, free_locations}
 use Rattle.qap_lines.proofs.NumberLists.{AllLimited-one}
+use Rattle.qap_lines.specs.Number.{IsNamed}
 use Rattle.pair_duals.specs.Reduced.{IsChild, IsFormOf, IsLine}
 use Rattle.pair_duals.specs.Seats.{child_at}
 use Rattle.qap_proof.specs.Shape.{free_count}
 use Rattle.proof_tree.proofs.Splits.{IsCellOf, IsCellOf-child, IsPlacement-cell}
 use Rattle.proof_tree.specs.Shape.{ArePairRows}
-use Rattle.proof_tree.specs.Tree.{row_of, column_of, child_on}
+use Rattle.proof_tree.specs.Text.{tree_text}
+use Rattle.proof_tree.specs.Tree.{PairRows, row_of, column_of, child_on}
 use Rattle.proof_tree.specs.Valid.{AreListed, under}
+use Rattle.qap_proof.specs.Cell.{IsPlaceOf, own_on}
+use Rattle.qap_proof.specs.declared.side.Side.{Side}
+use Rattle.proof_check.specs.Completeness.{BeginsWithRows, HasChildren, HasTree, Leaves, RefusesImage}
 use Rattle.proof_check.specs.Lines.{IsNodeLine}
 use Rattle.proof_check.specs.Rows.{lists_of, rows_of}
 use Rattle.proof_check.specs.Walk.{SaysImage, WalksChild, WalksTree}
 use Rattle.proof_check.specs.declared.node_line.NodeLine.TheVariants.{Leaf, Split as SplitsAt}
 use Rattle.proof_check.proofs.Closing.{cell_inside, cell_listed, far_read, free_is, free_whole, on_ok, reaches}
 use Rattle.proof_check.proofs.Lines.{named-is}
+use Rattle.proof_check.proofs.Passing.{HasLined-first, HasOwn-first, Leaves-weaker, own_fits, own_lined, own_next, own_rows, own_rows_are, own_scale, own_shape}
+use Rattle.proof_check.proofs.PassingChildren.{IsPassed-all, IsPassed-more, IsPassed-none, IsPassed-refused, LeavesOthers-image, LeavesOthers-tree, child_begins, closed_child, no_mark}
+use Rattle.proof_check.proofs.PassingLines.{leaf_closes, lined_leaf, lined_refused, lined_split, place_found, split_children}
+use Rattle.proof_check.proofs.TreeLines.{bare}
+use Rattle.proof_check.proofs.ReadLines.{starts_first, starts_otherwise}
 use Rattle.proof_check.proofs.TreeWalks.{WalksChild-closed, WalksChild-grown, WalksChild-image, WalksChildren-more, WalksChildren-none, WalksLined-leaf, WalksLined-split, WalksTree-own}
 use Rattle.proof_check.proofs.walking.+walking.Goals as goal
+use Rattle.proof_check.proofs.walking.+walking.Goals.{walk_split-in-Facility, walk_split-in-Location}
 
-pub walk_child-returns-then-starts_with : goal.walk_child-returns-then-starts_with
-walk_child-returns-then-starts_with g t c =
+pub walk_child-returns-then-begins_image-clause-walked : goal.walk_child-returns-then-begins_image-clause-walked
+walk_child-returns-then-begins_image-clause-walked g t c =
     let j = c.args.judge.now in
     let p = c.args.parent.now in
     on_ok c.judge_image.result _ _ (λ says.
-    WalksChild-image j.instance.now j.step j.bound p.split.node.now (under p.duals.now p.form.now) p.split.side p.split.own c.args.child c.advance.new.cursor.line.items _ _ c.in_ok-advance.ensures
-    (subst (λ (l : List ℕ). SaysImage j.instance.now p.split.node.now p.split.side p.split.own c.args.child l) c.deref-then-starts_with.ensures.value says)) c.judge_image.ensures
+    WalksChild-image j.instance.now j.step j.bound p.split.node.now (under p.duals.now p.form.now) p.split.side p.split.own c.args.child c.advance.new.cursor.line.items _ _ c.in_ok-advance.ensures.read
+    (subst (λ (l : List ℕ). SaysImage j.instance.now p.split.node.now p.split.side p.split.own c.args.child l) c.deref-then-begins_image.ensures.value says)) c.judge_image.ensures.says
 
 pub walk_child-child_node-requires-clause-row : goal.walk_child-child_node-requires-clause-row
 walk_child-child_node-requires-clause-row g t c = omega (arith, c.cell-h.ensures.row, (cell_listed _ _ _ _ _ _ _ _ c.args.child _ c.requires.parent c.requires.child).row)
@@ -82,8 +95,8 @@ walk_child-walk_below-requires g t c κs within =
       ),
     )
 
-pub walk_child-returns : goal.walk_child-returns
-walk_child-returns g t c =
+pub walk_child-returns-clause-walked : goal.walk_child-returns-clause-walked
+walk_child-returns-clause-walked g t c =
     let j = c.args.judge.now in
     let I = j.instance.now in
     let p = c.args.parent.now in
@@ -99,23 +112,27 @@ walk_child-returns g t c =
     let child : IsChild I D p.form.now row column R =
     subst (λ (k : ℕ). IsChild I D p.form.now k column R) c.cell-h.ensures.row (subst (λ (k : ℕ). IsChild I D p.form.now c.cell-h.result.0 k R) c.cell-h.ensures.column c.in_ok-child.ensures.child) in
     on_ok c.walk_below.result _ _ (λ w.
-    WalksChild-grown I j.step j.bound y (under D p.form.now) p.split.side p.split.own c.args.child R line _ b d c.in_ok-advance.ensures child
-    (subst (λ (x : Placement). WalksTree I j.step j.bound x (Some (under D R)) line b d) node_is w)) c.walk_below.ensures
+    WalksChild-grown I j.step j.bound y (under D p.form.now) p.split.side p.split.own c.args.child R line _ b d c.in_ok-advance.ensures.read child
+    (subst (λ (x : Placement). WalksTree I j.step j.bound x (Some (under D R)) line b d) node_is w)) c.walk_below.ensures.walked
 
 pub walk_children-loop-child-init : goal.walk_children-loop-child-init
 walk_children-loop-child-init g t c =
     let j = c.args.judge.now in
-    let p = c.args.parent.now in
-    WalksChildren-none j.instance.now j.step j.bound p.split.node.now (under p.duals.now p.form.now) p.split.side p.split.own c.args.marks.now _
+    let p = c.args.parent.now in (
+      WalksChildren-none j.instance.now j.step j.bound p.split.node.now (under p.duals.now p.form.now) p.split.side p.split.own c.args.marks.now _,
+      IsPassed-none j.instance.now j.step j.bound p.split.node.now (under p.duals.now p.form.now) p.split.side p.split.own c.args.marks.now _,
+    )
 
 pub walk_children-loop-child-preserved : goal.walk_children-loop-child-preserved
 walk_children-loop-child-preserved g t c =
     let j = c.args.judge.now in
-    let p = c.args.parent.now in
-    WalksChildren-more j.instance.now j.step j.bound p.split.node.now (under p.duals.now p.form.now) p.split.side p.split.own c.loop-child.child _ c.args.marks.now _ _ _ c.loop-child-test.true refl c.loop-child.invariant c.in_ok-walk_marked.ensures
+    let p = c.args.parent.now in (
+      WalksChildren-more j.instance.now j.step j.bound p.split.node.now (under p.duals.now p.form.now) p.split.side p.split.own c.loop-child.child _ c.args.marks.now _ _ _ c.loop-child-test.true refl c.loop-child.invariant.0 c.in_ok-walk_marked.ensures.walked,
+      IsPassed-more j.instance.now j.step j.bound p.split.node.now (under p.duals.now p.form.now) p.split.side p.split.own c.loop-child.child _ c.args.marks.now _ _ _ c.loop-child-test.true refl c.loop-child.invariant.1 c.in_ok-walk_marked.ensures.passed,
+    )
 
-pub walk_lined-returns-then-closes : goal.walk_lined-returns-then-closes
-walk_lined-returns-then-closes g t c =
+pub walk_lined-returns-then-closes-clause-walked : goal.walk_lined-returns-then-closes-clause-walked
+walk_lined-returns-then-closes-clause-walked g t c =
     let j = c.args.judge.now in
     let I = j.instance.now in
     let y = c.args.node.now in
@@ -125,7 +142,7 @@ walk_lined-returns-then-closes g t c =
     let u = c.in-Leaf.u in
     let m = c.free.result in
     let same : m ≡ free_count y = c.free.ensures.value ∙ free_is I D y old c.requires.placement c.requires.form in
-    let said : IsNodeLine m c.deref.result.now (Leaf u) = subst (IsNodeLine m c.deref.result.now) c.in-Leaf.is c.in_ok-line.ensures in
+    let said : IsNodeLine m c.deref.result.now (Leaf u) = subst (IsNodeLine m c.deref.result.now) c.in-Leaf.is c.in_ok-line.ensures.found in
     let line = c.in_ok-draw-in-Leaf.ensures.line in
     let drawn : IsLine old new u.items line.0 = subst (λ (l : List ℤ). IsLine old new l line.0) c.deref-in-Leaf.ensures.value line.1 in
     let threshold = c.threshold.result in
@@ -143,7 +160,7 @@ walk_lined-walk_split-requires g t c κs within =
     let m = c.free.result in
     let same : m ≡ free_count y = c.free.ensures.value ∙ free_is I D y old c.requires.placement c.requires.form in
     let whole = free_whole y c.requires.placement in
-    let said : IsNodeLine m c.deref.result.now (SplitsAt c.in-Split.split) = subst (IsNodeLine m c.deref.result.now) c.in-Split.is c.in_ok-line.ensures in
+    let said : IsNodeLine m c.deref.result.now (SplitsAt c.in-Split.split) = subst (IsNodeLine m c.deref.result.now) c.in-Split.is c.in_ok-line.ensures.found in
     let long = said.marks in
     let spent : 7 * (y.size - length y.facilities) + 4 ≡ t = c.decreases in
     let smaller : 7 * (y.size - length y.facilities) + 3 < t = omega arith in (
@@ -160,8 +177,8 @@ walk_lined-walk_split-requires g t c κs within =
       ),
     )
 
-pub walk_lined-returns : goal.walk_lined-returns
-walk_lined-returns g t c =
+pub walk_lined-returns-clause-walked : goal.walk_lined-returns-clause-walked
+walk_lined-returns-clause-walked g t c =
     let j = c.args.judge.now in
     let I = j.instance.now in
     let y = c.args.node.now in
@@ -171,23 +188,23 @@ walk_lined-returns g t c =
     let s = c.in-Split.split in
     let m = c.free.result in
     let same : m ≡ free_count y = c.free.ensures.value ∙ free_is I D y old c.requires.placement c.requires.form in
-    let said : IsNodeLine m c.deref.result.now (SplitsAt s) = subst (IsNodeLine m c.deref.result.now) c.in-Split.is c.in_ok-line.ensures in
+    let said : IsNodeLine m c.deref.result.now (SplitsAt s) = subst (IsNodeLine m c.deref.result.now) c.in-Split.is c.in_ok-line.ensures.found in
     let line = c.in_ok-draw-in-Split.ensures.line in
     let drawn : IsLine old new s.u.items line.0 = subst (λ (l : List ℤ). IsLine old new l line.0) c.deref-in-Split.ensures.value line.1 in
     on_ok c.walk_split.result _ _ (λ w.
     WalksLined-split I j.step j.bound y D old new m s.u.items line.0 s.side s.number s.marks.items c.args.cursor.now.line.items _ _ same (free_whole y c.requires.placement) said.u said.marks
-    (ap (λ l. l ++ 10 ∷ []) (sym c.deref.ensures.value) ∙ said.is) drawn w) c.walk_split.ensures
+    (ap (λ l. l ++ 10 ∷ []) (sym c.deref.ensures.value) ∙ said.is) drawn w) c.walk_split.ensures.walked
 
-pub walk_marked-returns-in_ok-check_closed : goal.walk_marked-returns-in_ok-check_closed
-walk_marked-returns-in_ok-check_closed g t c =
+pub walk_marked-returns-in_ok-check_closed-clause-walked : goal.walk_marked-returns-in_ok-check_closed-clause-walked
+walk_marked-returns-in_ok-check_closed-clause-walked g t c =
     let j = c.args.judge.now in
     let p = c.args.parent.now in
     let a = g.R.Read.remaining c.args.reader.now in
     subst (λ (mark : ℕ). WalksChild j.instance.now j.step j.bound p.split.node.now (under p.duals.now p.form.now) p.split.side p.split.own c.args.child mark a a) (sym c.if-mark-eq46.true)
-    (WalksChild-closed j.instance.now j.step j.bound p.split.node.now (under p.duals.now p.form.now) p.split.side p.split.own c.args.child a c.in_ok-check_closed.ensures)
+    (WalksChild-closed j.instance.now j.step j.bound p.split.node.now (under p.duals.now p.form.now) p.split.side p.split.own c.args.child a c.in_ok-check_closed.ensures.closed)
 
-pub walk_own-returns : goal.walk_own-returns
-walk_own-returns g t c = λ above.
+pub walk_own-returns-clause-walked : goal.walk_own-returns-clause-walked
+walk_own-returns-clause-walked g t c = λ above.
     let j = c.args.judge.now in
     let I = j.instance.now in
     let y = c.args.node.now in
@@ -195,12 +212,233 @@ walk_own-returns g t c = λ above.
     let rows = lists_of c.in_ok-rows.rows.items in
     let P = rows_of scale rows in
     let said = c.in-Some.ensures in
-    let read = c.in_ok-rows.ensures in
+    let read = c.in_ok-rows.ensures.read in
     let m_is : c.size.result - c.depth.result ≡ free_count y = ap₂ (λ a b. a - b) c.size.ensures.value c.depth.ensures.value in
     let shape : ArePairRows (free_count y) P = subst (λ (m : ℕ). ArePairRows m P) m_is (record { positive = said.0; scale = said.1; count = read.count; each = read.each }) in
-    let found = rw c.in-Some-2.is at c.in_ok-duals.ensures in
+    let found = rw c.in-Some-2.is at c.in_ok-duals.ensures.found in
     let D = c.in-Some-2.duals in
     let listed : AreListed y P D = subst (λ (l : List (Vec ℤ)). AreListed y (rows_of scale (lists_of l)) D) c.deref-2.ensures.value found.0 in
     let line_is = sym c.deref.ensures.value ∙ named-is (codes "p") c.deref.result.now (pos scale ∷ []) said.2 (AllLimited-one (pos scale) (omega (arith, said.1))) in
     on_ok c.walk_lined.result _ _ (λ w.
-    WalksTree-own I j.step j.bound y above D c.start.new.self P c.args.cursor.now.line.items c.advance.new.cursor.line.items _ _ _ _ line_is shape read.consumed c.in_ok-advance.ensures listed found.1 c.in_ok-start.ensures.start w) c.walk_lined.ensures
+    WalksTree-own I j.step j.bound y above D c.start.new.self P c.args.cursor.now.line.items c.advance.new.cursor.line.items _ _ _ _ line_is shape read.consumed c.in_ok-advance.ensures.read listed found.1 c.in_ok-start.ensures.start w) c.walk_lined.ensures.walked
+
+-- ---- what is left where the text is that of a valid tree
+
+pub walk_below-returns-then-starts_with-clause-passed : goal.walk_below-returns-then-starts_with-clause-passed
+walk_below-returns-then-starts_with-clause-passed g t c =
+    let j = c.args.judge.now in
+    let line = c.args.cursor.now.line.items in
+    let first = starts_first c.deref.result.now line 112 c.starts_with.result c.deref.ensures.value c.if-starts_with.true c.starts_with.ensures.value in
+    Leaves-weaker _ _ _ c.walk_own.result (λ rest h. HasOwn-first j.instance.now j.step j.bound c.args.node.now (Some (under c.args.duals.now c.args.form.now)) line _ rest c.requires.placement first h) c.walk_own.ensures.passed
+
+pub walk_below-returns-else-starts_with-clause-passed : goal.walk_below-returns-else-starts_with-clause-passed
+walk_below-returns-else-starts_with-clause-passed g t c =
+    let j = c.args.judge.now in
+    let line = c.args.cursor.now.line.items in
+    let other = starts_otherwise c.deref.result.now line 112 c.starts_with.result (omega arith) c.deref.ensures.value c.if-starts_with.false c.starts_with.ensures.value in
+    Leaves-weaker _ _ _ c.walk_lined.result (λ rest h. HasLined-first j.instance.now j.step j.bound c.args.node.now (under c.args.duals.now c.args.form.now) line _ rest other h) c.walk_lined.ensures.passed
+
+pub walk_own-returns-in_default-clause-passed : goal.walk_own-returns-in_default-clause-passed
+walk_own-returns-in_default-clause-passed g t c = λ rest h.
+    let j = c.args.judge.now in
+    let rows = own_shape j.instance.now j.step j.bound c.args.node.now c.args.cursor.now.line.items _ rest h in
+    absurd (c.in_default.ensures h.rows.scale rows.positive rows.scale
+    (subst (λ (l : List ℕ). IsNamed (codes "p") l (pos h.rows.scale ∷ [])) (sym c.deref.ensures.value) (own_scale j.instance.now j.step j.bound c.args.node.now c.args.cursor.now.line.items _ rest h)))
+
+pub walk_own-returns-in_err-rows-clause-passed : goal.walk_own-returns-in_err-rows-clause-passed
+walk_own-returns-in_err-rows-clause-passed g t c =
+    let p = err_from_is_err_and c.from_residual.result c.from_residual.ensures.1 in
+    let j = c.args.judge.now in
+    let y = c.args.node.now in
+    let m_is : c.size.result - c.depth.result ≡ free_count y = ap₂ (λ a b. a - b) c.size.ensures.value c.depth.ensures.value in
+    rw (p.1, p.2) (λ rest h.
+    (c.in_err-rows.ensures {u = tt}).passed h.rows.rows _ (subst (λ (m : ℕ). BeginsWithRows m h.rows.rows (g.R.Read.remaining c.args.reader.now) (tree_text (bare h.has.tree) ++ rest)) (sym m_is) (own_rows j.instance.now j.step j.bound y c.args.cursor.now.line.items _ rest h)))
+
+pub walk_own-returns-in_default-2-clause-passed : goal.walk_own-returns-in_default-2-clause-passed
+walk_own-returns-in_default-2-clause-passed g t c = λ rest h.
+    let j = c.args.judge.now in
+    let y = c.args.node.now in
+    let m_is : c.size.result - c.depth.result ≡ free_count y = ap₂ (λ a b. a - b) c.size.ensures.value c.depth.ensures.value in
+    let own = own_rows_are j.instance.now j.step j.bound y c.args.cursor.now.line.items c.deref.result.now _ _ rest c.in-Some.scale (c.size.result - c.depth.result) (lists_of c.in_ok-rows.rows.items) h c.deref.ensures.value c.in-Some.ensures.2 m_is c.in_ok-rows.ensures.passed in
+    let starts = own_fits j.instance.now j.step j.bound y c.args.cursor.now.line.items _ rest h in
+    let same : h.rows ≡ rows_of c.in-Some.scale (lists_of c.deref-2.result.now) = own.0 ∙ ap (λ (l : List (Vec ℤ)). rows_of c.in-Some.scale (lists_of l)) (sym c.deref-2.ensures.value) in
+    let none = rw c.in_default-2.is at c.in_ok-duals.ensures.none in
+    absurd (none starts.duals (subst (λ (P : PairRows). AreListed y P starts.duals) same starts.listed) starts.fit)
+
+pub walk_own-returns-in_err-advance-clause-passed : goal.walk_own-returns-in_err-advance-clause-passed
+walk_own-returns-in_err-advance-clause-passed g t c =
+    let p = err_from_is_err_and c.from_residual-in_err-advance.result c.from_residual-in_err-advance.ensures.1 in
+    let j = c.args.judge.now in
+    let y = c.args.node.now in
+    let m_is : c.size.result - c.depth.result ≡ free_count y = ap₂ (λ a b. a - b) c.size.ensures.value c.depth.ensures.value in
+    rw (p.1, p.2) (λ rest h.
+    let own = own_rows_are j.instance.now j.step j.bound y c.args.cursor.now.line.items c.deref.result.now _ _ rest c.in-Some.scale (c.size.result - c.depth.result) (lists_of c.in_ok-rows.rows.items) h c.deref.ensures.value c.in-Some.ensures.2 m_is c.in_ok-rows.ensures.passed in
+    (c.in_err-advance.ensures {u = tt}).refused _ _ (own_next j.instance.now j.step j.bound y c.args.cursor.now.line.items _ _ rest h c.requires.placement own.1))
+
+pub walk_own-returns-clause-passed : goal.walk_own-returns-clause-passed
+walk_own-returns-clause-passed g t c =
+    let j = c.args.judge.now in
+    let y = c.args.node.now in
+    let D = c.in-Some-2.duals in
+    let m_is : c.size.result - c.depth.result ≡ free_count y = ap₂ (λ a b. a - b) c.size.ensures.value c.depth.ensures.value in
+    let found = rw c.in-Some-2.is at c.in_ok-duals.ensures.found in
+    let read = c.in_ok-advance.ensures in
+    Leaves-weaker _ _ _ c.walk_lined.result (λ rest h.
+    let own = own_rows_are j.instance.now j.step j.bound y c.args.cursor.now.line.items c.deref.result.now _ _ rest c.in-Some.scale (c.size.result - c.depth.result) (lists_of c.in_ok-rows.rows.items) h c.deref.ensures.value c.in-Some.ensures.2 m_is c.in_ok-rows.ensures.passed in
+    let same : h.rows ≡ rows_of c.in-Some.scale (lists_of c.deref-2.result.now) = own.0 ∙ ap (λ (l : List (Vec ℤ)). rows_of c.in-Some.scale (lists_of l)) (sym c.deref-2.ensures.value) in
+    let listed : AreListed y h.rows D = subst (λ (P : PairRows). AreListed y P D) (sym same) found.0 in
+    own_lined j.instance.now j.step j.bound y D c.start.new.self c.args.cursor.now.line.items c.advance.new.cursor.line.items _ _ _ rest h c.requires.placement listed c.in_ok-start.ensures.start own.1 read.read read.whole) c.walk_lined.ensures.passed
+
+pub walk_lined-returns-in_err-line-clause-passed : goal.walk_lined-returns-in_err-line-clause-passed
+walk_lined-returns-in_err-line-clause-passed g t c =
+    let p = err_from_is_err_and c.from_residual.result c.from_residual.ensures.1 in
+    let j = c.args.judge.now in
+    let y = c.args.node.now in
+    let D = c.args.duals.now in
+    let old = c.args.form.now in
+    let m = c.free.result in
+    let same : m ≡ free_count y = c.free.ensures.value ∙ free_is j.instance.now D y old c.requires.placement c.requires.form in
+    rw (p.1, p.2) (λ rest h.
+    lined_refused j.instance.now j.step j.bound y (under D old) c.args.cursor.now.line.items c.deref.result.now m c.size.result _ _ rest c.requires.placement c.deref.ensures.value same c.size.ensures.value (c.in_err-line.ensures {u = tt}).refused h)
+
+pub walk_lined-returns-then-closes-clause-passed : goal.walk_lined-returns-then-closes-clause-passed
+walk_lined-returns-then-closes-clause-passed g t c = λ rest h.
+    let j = c.args.judge.now in
+    let u = c.in-Leaf.u in
+    let said : IsNodeLine c.free.result c.deref.result.now (Leaf u) = subst (IsNodeLine c.free.result c.deref.result.now) c.in-Leaf.is c.in_ok-line.ensures.found in
+    (lined_leaf j.instance.now j.step j.bound c.args.node.now c.args.duals.now c.args.form.now c.args.cursor.now.line.items u.items _ rest c.requires.placement said.0.limited (sym c.deref.ensures.value ∙ said.1) h).known
+
+pub walk_lined-returns-in-Leaf-clause-passed : goal.walk_lined-returns-in-Leaf-clause-passed
+walk_lined-returns-in-Leaf-clause-passed g t c = λ rest h.
+    let j = c.args.judge.now in
+    let D = c.args.duals.now in
+    let old = c.args.form.now in
+    let new = c.draw.new.form in
+    let u = c.in-Leaf.u in
+    let said : IsNodeLine c.free.result c.deref.result.now (Leaf u) = subst (IsNodeLine c.free.result c.deref.result.now) c.in-Leaf.is c.in_ok-line.ensures.found in
+    let leaf = lined_leaf j.instance.now j.step j.bound c.args.node.now D old c.args.cursor.now.line.items u.items _ rest c.requires.placement said.0.limited (sym c.deref.ensures.value ∙ said.1) h in
+    let line = c.in_ok-draw-in-Leaf.ensures.line in
+    let drawn : IsLine old new u.items line.0 = subst (λ (l : List ℤ). IsLine old new l line.0) c.deref-in-Leaf.ensures.value line.1 in
+    let threshold = c.threshold.result in
+    let above = leaf_closes j.instance.now j.step j.bound j.below c.args.node.now D old new u.items line.0 threshold _ rest c.requires.judge c.threshold.ensures.value drawn leaf in
+    let read = far_read threshold c.threshold.ensures.small in
+    absurd (false≢true (sym c.if-closes.false ∙ c.closes.ensures.1 (omega (arith, ints, read, above))))
+
+pub walk_lined-returns-clause-passed : goal.walk_lined-returns-clause-passed
+walk_lined-returns-clause-passed g t c =
+    let j = c.args.judge.now in
+    let I = j.instance.now in
+    let y = c.args.node.now in
+    let D = c.args.duals.now in
+    let old = c.args.form.now in
+    let new = c.draw-in-Split.new.form in
+    let s = c.in-Split.split in
+    let m = c.free.result in
+    let count = free_is I D y old c.requires.placement c.requires.form in
+    let same : m ≡ free_count y = c.free.ensures.value ∙ count in
+    let said : IsNodeLine m c.deref.result.now (SplitsAt s) = subst (IsNodeLine m c.deref.result.now) c.in-Split.is c.in_ok-line.ensures.found in
+    let line = c.in_ok-draw-in-Split.ensures.line in
+    let drawn : IsLine old new s.u.items line.0 = subst (λ (l : List ℤ). IsLine old new l line.0) c.deref-in-Split.ensures.value line.1 in
+    Leaves-weaker _ _ _ c.walk_split.result (λ rest h.
+    lined_split I j.step j.bound y D old new c.args.cursor.now.line.items s.side s.number s.marks.items s.u.items line.0 _ rest c.requires.placement count (omega (arith, said.number)) (said.marks ∙ same) said.u.limited drawn
+    (ap (λ l. l ++ 10 ∷ []) (sym c.deref.ensures.value) ∙ said.is) h) c.walk_split.ensures.passed
+
+pub walk_split-returns-clause-passed : goal.walk_split-returns-clause-passed
+walk_split-returns-clause-passed g t c =
+    let j = c.args.judge.now in
+    let y = c.args.node.now in
+    let s = c.args.split.now in
+    let own = c.in-Some.own in
+    let at : IsPlaceOf (own_on s.side y) s.number own = elim c.match-split.branch [
+      | walk_split-in-Facility w ↦
+          subst (λ (x : Side). IsPlaceOf (own_on x y) s.number own) (sym w.in-Facility.is) (place_found s.number own _ w.deref.result.now (free_facilities y) (sym w.own-is ∙ c.in-Some.is) w.place_of-own.ensures (w.deref.ensures.value ∙ c.in_ok-facilities.ensures.value))
+      | walk_split-in-Location w ↦
+          subst (λ (x : Side). IsPlaceOf (own_on x y) s.number own) (sym w.in-Location.is)
+          (place_found s.number own _ w.deref-in-Location.result.now (free_locations y) (sym w.own-is ∙ c.in-Some.is) w.place_of-own-in-Location.ensures (w.deref-in-Location.ensures.value ∙ c.in_ok-locations.ensures.value))
+    ] in
+    let now = under c.args.duals.now c.args.form.now in
+    Leaves-weaker _ _ _ c.walk_children.result (λ rest h.
+    subst (λ (l : List ℕ). HasChildren j.instance.now j.step j.bound y now s.side own 0 l (g.R.Read.remaining c.args.reader.now) rest) (sym c.deref-4.ensures.value)
+    (split_children j.instance.now j.step j.bound y now s.side s.number own s.marks.items (g.R.Read.remaining c.args.reader.now) rest c.requires.placement at h)) c.walk_children.ensures.passed
+
+pub walk_children-returns-in_err-walk_marked-clause-passed : goal.walk_children-returns-in_err-walk_marked-clause-passed
+walk_children-returns-in_err-walk_marked-clause-passed g t c =
+    let e = err_from_is_err_and c.from_residual.result c.from_residual.ensures.1 in
+    let j = c.args.judge.now in
+    let p = c.args.parent.now in
+    rw (e.1, e.2) (λ rest h.
+    IsPassed-refused j.instance.now j.step j.bound p.split.node.now (under p.duals.now p.form.now) p.split.side p.split.own c.loop-child.child _ c.args.marks.now _ _ rest _ c.loop-child-test.true refl c.loop-child.invariant.1 (c.in_err-walk_marked.ensures {u = tt}).passed h)
+
+pub walk_children-returns-clause-passed : goal.walk_children-returns-clause-passed
+walk_children-returns-clause-passed g t c = λ rest h.
+    let j = c.args.judge.now in
+    let p = c.args.parent.now in
+    IsPassed-all j.instance.now j.step j.bound p.split.node.now (under p.duals.now p.form.now) p.split.side p.split.own c.loop-child.child c.args.marks.now _ _ rest c.loop-child-test.false c.loop-child.invariant.1 h
+
+pub walk_marked-returns-in_err-check_closed-clause-passed : goal.walk_marked-returns-in_err-check_closed-clause-passed
+walk_marked-returns-in_err-check_closed-clause-passed g t c =
+    let e = err_from_is_err_and c.from_residual.result c.from_residual.ensures.1 in
+    let j = c.args.judge.now in
+    let p = c.args.parent.now in
+    let now = under p.duals.now p.form.now in
+    rw (e.1, e.2) (λ more rest h.
+    (c.in_err-check_closed.ensures {u = tt}).refused
+    (closed_child j.instance.now j.step j.bound p.split.node.now now p.split.side p.split.own c.args.child more (g.R.Read.remaining c.args.reader.now) rest (subst (λ (mark : ℕ). HasChildren j.instance.now j.step j.bound p.split.node.now now p.split.side p.split.own c.args.child (mark ∷ more) (g.R.Read.remaining c.args.reader.now) rest) c.if-mark-eq46.true h)).0)
+
+pub walk_marked-returns-in_ok-check_closed-clause-passed : goal.walk_marked-returns-in_ok-check_closed-clause-passed
+walk_marked-returns-in_ok-check_closed-clause-passed g t c = λ more rest h.
+    let j = c.args.judge.now in
+    let p = c.args.parent.now in
+    let now = under p.duals.now p.form.now in
+    (closed_child j.instance.now j.step j.bound p.split.node.now now p.split.side p.split.own c.args.child more (g.R.Read.remaining c.args.reader.now) rest (subst (λ (mark : ℕ). HasChildren j.instance.now j.step j.bound p.split.node.now now p.split.side p.split.own c.args.child (mark ∷ more) (g.R.Read.remaining c.args.reader.now) rest) c.if-mark-eq46.true h)).1
+
+pub walk_marked-returns-else-mark-eq43-clause-passed : goal.walk_marked-returns-else-mark-eq43-clause-passed
+walk_marked-returns-else-mark-eq43-clause-passed g t c = λ more rest h.
+    let j = c.args.judge.now in
+    let p = c.args.parent.now in
+    absurd (no_mark j.instance.now j.step j.bound p.split.node.now (under p.duals.now p.form.now) p.split.side p.split.own c.args.child c.args.mark more _ rest c.if-mark-eq46.false c.if-mark-eq43.false h)
+
+pub walk_child-returns-in_err-advance-clause-passed : goal.walk_child-returns-in_err-advance-clause-passed
+walk_child-returns-in_err-advance-clause-passed g t c =
+    let e = err_from_is_err_and c.from_residual.result c.from_residual.ensures.1 in
+    let j = c.args.judge.now in
+    let p = c.args.parent.now in
+    let parent = c.requires.parent in
+    rw (e.1, e.2) (λ more rest h.
+    let begins = child_begins j.instance.now j.step j.bound p.split.node.now (under p.duals.now p.form.now) p.split.side p.split.own c.args.child more _ rest parent.placement parent.own_in c.requires.child h in
+    (c.in_err-advance.ensures {u = tt}).refused begins.0 begins.1 begins.2)
+
+pub walk_child-returns-then-begins_image-clause-passed : goal.walk_child-returns-then-begins_image-clause-passed
+walk_child-returns-then-begins_image-clause-passed g t c =
+    let j = c.args.judge.now in
+    let p = c.args.parent.now in
+    let parent = c.requires.parent in
+    let line = c.advance.new.cursor.line.items in
+    let read = c.in_ok-advance.ensures in
+    let low = rw c.if-begins_image.true at c.begins_image.ensures in
+    let refused = subst (λ (l : List ℕ). IfErr c.judge_image.result (RefusesImage j.instance.now p.split.node.now p.split.side p.split.own c.args.child l)) c.deref-then-begins_image.ensures.value c.judge_image.ensures.refused in
+    LeavesOthers-image j.instance.now j.step j.bound p.split.node.now (under p.duals.now p.form.now) p.split.side p.split.own c.args.child line (g.R.Read.remaining c.args.reader.now) _ c.judge_image.result parent.placement parent.own_in c.requires.child read.read read.whole
+    (subst (λ (l : List ℕ). get_or l 0 0 ≤ 109) c.deref.ensures.value low) refused
+
+pub walk_child-returns-clause-passed : goal.walk_child-returns-clause-passed
+walk_child-returns-clause-passed g t c =
+    let j = c.args.judge.now in
+    let I = j.instance.now in
+    let p = c.args.parent.now in
+    let y = p.split.node.now in
+    let D = p.duals.now in
+    let R = c.child.new.child in
+    let row = row_of p.split.side p.split.own c.args.child in
+    let column = column_of p.split.side p.split.own c.args.child in
+    let parent = c.requires.parent in
+    let line = c.advance.new.cursor.line.items in
+    let read = c.in_ok-advance.ensures in
+    let b = g.R.Read.remaining c.advance.new.reader in
+    let d = g.R.Read.remaining c.walk_below.new.reader in
+    let node_is : c.in_ok-node.node ≡ child_on p.split.side y p.split.own c.args.child = c.in_ok-node.ensures ∙ ap₂ (child_at y) c.cell-h.ensures.row c.cell-h.ensures.column in
+    let child : IsChild I D p.form.now row column R =
+    subst (λ (k : ℕ). IsChild I D p.form.now k column R) c.cell-h.ensures.row (subst (λ (k : ℕ). IsChild I D p.form.now c.cell-h.result.0 k R) c.cell-h.ensures.column c.in_ok-child.ensures.child) in
+    let other = subst (λ (l : List ℕ). (get_or l 0 0 ≢ 109) × (get_or l 0 0 ≢ 103)) c.deref.ensures.value (rw c.if-begins_image.false at c.begins_image.ensures) in
+    let left = subst (λ (x : Placement). Leaves (HasTree I j.step j.bound x (Some (under D R)) line b) d c.walk_below.result) node_is c.walk_below.ensures.passed in
+    LeavesOthers-tree I j.step j.bound y (under D p.form.now) p.split.side p.split.own c.args.child line R (g.R.Read.remaining c.args.reader.now) b d c.walk_below.result parent.placement parent.own_in c.requires.child (free_is I D y p.form.now parent.placement parent.form) read.read read.whole
+    other.0 other.1 child left

@@ -2,6 +2,7 @@ use Rattle.std.proofs.Common.{◌+◌, ◌*◌}
 use Rattle.qap_proof.specs.Shape.{free_count}
 use Rattle.proof_tree.specs.Valid.{under}
 use Rattle.proof_check.specs.Walk.{WalksChildren}
+use Rattle.proof_check.proofs.PassingChildren.{IsPassed}
 use Rattle.proof_check.proofs.walking.+walking.Given as goal
 
 abbrev pub decreases-walk_below : goal.decreases-walk_below
@@ -28,3 +29,4 @@ decreases-walk_child g l = 7 * free_count l.parent.now.split.node.now
 abbrev pub invariant-walk_children-loop-child : goal.invariant-walk_children-loop-child
 invariant-walk_children-loop-child g l =
     WalksChildren l.judge.instance.now l.judge.step l.judge.bound l.parent.split.node.now (under l.parent.duals.now l.parent.form.now) l.parent.split.side l.parent.split.own l.child l.marks (g.R.Read.remaining l.fn.reader) (g.R.Read.remaining l.reader)
+    × IsPassed l.judge.instance.now l.judge.step l.judge.bound l.parent.split.node.now (under l.parent.duals.now l.parent.form.now) l.parent.split.side l.parent.split.own l.child l.marks (g.R.Read.remaining l.fn.reader) (g.R.Read.remaining l.reader)

@@ -1,4 +1,5 @@
-use Rattle.std.proofs.Common.{◌≡◌, of_z, rules, subst, sym, to_z}
+use Rattle.std.proofs.Common.{◌∙◌, ◌≡◌, of_z, rules, subst, sym, to_z}
+use Rattle.std.proofs.lemmas.Bool.{false≢true}
 use Rattle.std.specs.Int.{w128}
 use Rattle.qap_cost.specs.Placement.{Placement}
 use Rattle.qap_proof.specs.Claim.{NoneCompletesForLess}
@@ -7,7 +8,8 @@ use Rattle.proof_versions.proofs.over_root.accept_over.Goals as goal
 
 pub returns-then-not-states_version_two-clause-shown : goal.returns-then-not-states_version_two-clause-shown
 returns-then-not-states_version_two-clause-shown c =
-    over_root-first c.args.instance.now c.args.text.now c.args.root.now c.accept_over.result c.accept_over.ensures.shown
+    over_root-first c.args.instance.now c.args.text.now c.args.root.now c.accept_over.result
+    (λ two. false≢true (sym c.if-not-states_version_two.true ∙ c.states_version_two.ensures.1 two)) c.accept_over.ensures.shown
 
 pub returns-clause-so : goal.returns-clause-so
 returns-clause-so c =
@@ -17,4 +19,4 @@ returns-clause-so c =
     let bound_is : to_z w128 (of_z w128 stated.bound) ≡ stated.bound = search rules in
     subst (NoneCompletesForLess I c.args.root.now) (sym bound_is)
     (subst (λ (x : Placement). NoneCompletesForLess I x stated.bound) same
-    (NoneCompletesForLess-pairs I c.args.text.now stated.root stated.cost stated.bound c.in_ok-stated.ensures))
+    (NoneCompletesForLess-pairs I c.args.text.now stated.root stated.cost stated.bound c.in_ok-stated.ensures.proves))

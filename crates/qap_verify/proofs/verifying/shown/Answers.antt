@@ -8,7 +8,7 @@ use Rattle.qap_text.specs.InstanceText.{IsInstanceText}
 use Rattle.proof_versions.specs.Streams.{StreamShows}
 use Rattle.proof_versions.specs.Versions.{EitherIsRefused, StatesVersionTwo}
 use Rattle.qap_verify.specs.Answering.{Proves}
-use Rattle.qap_verify.specs.Refusal.{IsOfProof, of_proof}
+use Rattle.qap_verify.specs.Refusal.{RefusesStream, of_proof}
 use Rattle.qap_verify.specs.Texts.{HasTexts, inputs_of}
 use Rattle.qap_verify.proofs.Comes.{wants_memory}
 use Rattle.qap_verify.proofs.Streams.{fault_of, whole_of, yields_of}
@@ -35,7 +35,7 @@ returns-then-states_version_two-clause-verdict g c =
     let I = c.in_ok-instance.instance in
     let front = c.in_ok-front.front.items in
     let two : StatesVersionTwo front = subst StatesVersionTwo c.deref-2.ensures.value (c.states_version_two.ensures.0 c.if-states_version_two.true) in
-    let shows = subst (λ (t : List ℕ). MatchResult c.streamed.result (StreamShows I (prepend_known t (g.S.Read.remaining c.read_front.new.reader.inner))) IsOfProof)
+    let shows = subst (λ (t : List ℕ). MatchResult c.streamed.result (StreamShows I (prepend_known t (g.S.Read.remaining c.read_front.new.reader.inner))) (RefusesStream I (prepend_known t (g.S.Read.remaining c.read_front.new.reader.inner))))
     c.deref-then-states_version_two.ensures.value c.streamed.ensures.shown in
     yields_of (inputs_of g.R.Read.remaining c.args.instance.now c.read_all.new.reader g.S.Read.remaining c.args.proof.now c.streamed.new.proof) I c.in_ok-instance.field-0-1.now
     (g.S.Read.remaining c.read_front.new.reader.inner) front c.streamed.result
