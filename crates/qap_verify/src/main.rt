@@ -131,9 +131,23 @@ fn run_on<R: Read + Drop>(rt: &HostRuntime, files: &Files<'_>, instance: R) -> E
     }
     let code = if files.proof == "-" {
         let mut proof = Counted::new(rt.stdin());
-        answered(alloc, &mut instance, &mut proof, files.wanted, &mut output, &mut errors)
+        answered(
+            alloc,
+            &mut instance,
+            &mut proof,
+            files.wanted,
+            &mut output,
+            &mut errors,
+        )
     } else {
-        verified(alloc, &system, files, &mut instance, &mut output, &mut errors)
+        verified(
+            alloc,
+            &system,
+            files,
+            &mut instance,
+            &mut output,
+            &mut errors,
+        )
     };
     ExitCode::from(code)
 }

@@ -43,14 +43,7 @@ where
     match sources.open(files.proof) {
         Ok(file) => {
             let mut proof = Counted::new(file);
-            answered(
-                alloc,
-                instance,
-                &mut proof,
-                files.wanted,
-                output,
-                errors,
-            )
+            answered(alloc, instance, &mut proof, files.wanted, output, errors)
         }
         Err(error) => refused(error, errors),
     }
