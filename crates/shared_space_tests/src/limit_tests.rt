@@ -52,7 +52,9 @@ fn new_limited<L: Law>(
 }
 
 /// A transaction that has written a job.
-fn begin_writing<L: Law, R: Wait>(rt: &R, alloc: Global, shared: &Shared<L>) -> Result<Txn, Fail> {
+fn begin_writing<L: Law, R: Wait>(rt: &R, alloc: Global, shared: &Shared<L>) -> Result<Txn, Fail>
+    requires { IsFree L.lawful L.allowed L.begins L.changes }
+{
     let Some(tuple) = job(alloc, 7) else {
         return Err(Fail::new("a job is to be made"));
     };

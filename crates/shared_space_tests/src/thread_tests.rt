@@ -254,11 +254,9 @@ fn read_back_in<L: Law, R: Wait>(
 }
 
 /// Reads under a transaction that is ended, and advances the moment.
-fn read_and_abort<L: Law, R: Wait>(
-    rt: &R,
-    shared: &Shared<L>,
-    jobs: &Template,
-) -> Result<(), Fail> {
+fn read_and_abort<L: Law, R: Wait>(rt: &R, shared: &Shared<L>, jobs: &Template) -> Result<(), Fail>
+    requires { IsFree L.lawful L.allowed L.begins L.changes }
+{
     let mut reader = shared.begin(rt, 1000)?;
     shared.rdp_in(rt, &mut reader, jobs)?;
     if shared.abort(rt, reader).is_err() || shared.advance(rt, 1).is_err() {
@@ -335,7 +333,9 @@ fn take_and_abort<L: Law, R: Wait>(
     rt: &R,
     shared: &Shared<L>,
     jobs: &Template,
-) -> Result<[Option<i128>; 2], Fail> {
+) -> Result<[Option<i128>; 2], Fail>
+    requires { IsFree L.lawful L.allowed L.begins L.changes }
+{
     let mut txn = shared.begin(rt, 1000)?;
     shared.inp_in(rt, &mut txn, jobs)?;
     let meanwhile = read(rt, shared, jobs)?;
