@@ -1,5 +1,5 @@
 -- One more part, behind others.
-use Rattle.std.proofs.Common.{◌≡◌, ℕ, ◌<◌, ◌+◌, ◌++◌, ◌∷◌, [], List, Option, length, take, get_or, refl, subst, sym}
+use Rattle.std.proofs.Common.{ℕ, ◌<◌, ◌+◌, ◌++◌, ◌∷◌, [], List, Option, length, take, get_or, refl, subst, sym}
 use Rattle.std.proofs.lemmas.List.{take_more}
 use Rattle.qap_proof.specs.Cover.{CoverValue}
 use Rattle.qap_verify.specs.Naming.{AddsEach, AddsFile}

@@ -1,5 +1,5 @@
 -- Runs on named files. The possible contents of files are a relation of names and bytes.
-use Rattle.std.specs.Prelude.{◌≡◌, ◌⊎◌, ℕ, ℤ, List, [], ◌∷◌, Option, IfSome}
+use Rattle.std.specs.Prelude.{◌≡◌, ℕ, ℤ, List, [], ◌∷◌, Option, IfSome}
 use Rattle.qap_io.specs.Counting.{CountedDevice}
 use Rattle.qap_proof.specs.Cover.{CoverValue, IsOpened}
 use Rattle.qap_proof.specs.declared.acceptance.Verdict.{Verdict}
