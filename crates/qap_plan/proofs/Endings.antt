@@ -1,8 +1,8 @@
 -- How the steps of a run end.
-use Rattle.std.proofs.Common.{ℕ, ◌≡◌, ◌∙◌, ◌≤◌, ◌⊎◌, arith, inl, inr, refl, subst, sym}
+use Rattle.std.proofs.Common.{◌≡◌, ◌∙◌, ◌≤◌, ◌⊎◌, arith, inl, inr, refl, subst, sym}
 use Rattle.qap_io.specs.declared.status.Status.{Status}
 use Rattle.qap_io.specs.declared.status.Status.TheVariants.{Done, Refused, Usage, OutOfMemory, Unfinished, Stopped}
-use Rattle.qap_plan.specs.Outputs.{EndsWith, IsFailure, IsSuccess, severity}
+use Rattle.qap_plan.specs.Outputs.{EndsWith, IsSuccess, severity}
 
 -- a step that did not fail was done, and what it does holds
 pub done_of : (s : Status) (Holds : Type 0) → EndsWith s Holds → IsSuccess s → Holds
@@ -12,6 +12,15 @@ done_of Unfinished Holds h success = absurd (omega arith)
 done_of Refused Holds h success = absurd (omega arith)
 done_of Usage Holds h success = absurd (omega arith)
 done_of OutOfMemory Holds h success = absurd (omega arith)
+
+-- a step that does one thing does what follows from it
+pub ends_weaker : (s : Status) (Holds Follows : Type 0) → (Holds → Follows) → EndsWith s Holds → EndsWith s Follows
+ends_weaker Done Holds Follows f h = f h
+ends_weaker Stopped Holds Follows f h = h
+ends_weaker Unfinished Holds Follows f h = h
+ends_weaker Refused Holds Follows f h = h
+ends_weaker Usage Holds Follows f h = h
+ends_weaker OutOfMemory Holds Follows f h = h
 
 -- then that is how it ended
 pub is_done : (s : Status) (Holds : Type 0) → EndsWith s Holds → IsSuccess s → s ≡ Done

@@ -1,7 +1,6 @@
 //! The subcommand `compare`: its command line and its run.
 
 ghost use Rattle.std.specs.Prelude.{IfOk, IfSome, length, option_copied, ◌≡◌};
-ghost use Rattle.plan_answer.specs.Compared.{IsComparedText};
 ghost use Rattle.plan_answer.specs.Layout.{layout_text};
 ghost use Rattle.plan_file.specs.Tables.{HasSizes};
 ghost use Rattle.qap_cost.specs.Placement.{Completes};

@@ -28,7 +28,7 @@ use crate::search::run_clock::RunClock;
 use crate::search::standing::standing_proof;
 use clap::{Arg, ArgMatches, Command};
 use plan_input::{Disk, Texts};
-use qap_cost::{Instance, Partial, Perm, cost};
+use qap_cost::{Partial, Perm, cost};
 use qap_io::Status;
 use qap_proof::{Stated, read_node_text};
 use std::alloc::{AllocError, Global};

@@ -4,9 +4,8 @@ ghost use Rattle.std.specs.Prelude.{IfOk, IfSome, length, option_copied, string_
 ghost use Rattle.qap_cost.specs.Objective.{Permutes};
 ghost use Rattle.qap_plan.specs.Options.{AreLimited};
 ghost use Rattle.qap_plan.specs.Outputs.{EndsWith, IsSuccess};
-ghost use Rattle.qap_plan.specs.PartFiles.{ArePartFiles, AreTextsOf, BeginsIn, IsFileIn, SplitsSearched, SplitsUp, TellsSplit, WritesParts, split_line, split_status};
+ghost use Rattle.qap_plan.specs.PartFiles.{ArePartFiles, AreTextsOf, BeginsIn, IsFileIn, SplitsUp, TellsSplit, WritesParts, split_line, split_status};
 ghost use Rattle.qap_plan.specs.Starting.{IsSolutionIn};
-ghost use Rattle.qap_proof.specs.Claim.{IsRoot};
 ghost use Rattle.qap_text.specs.WrittenSolution.{solution_text};
 
 use crate::commands::command_line::{ignore_rest, time_limit, with_improvement, with_start};
@@ -158,38 +157,12 @@ where
     if let Err(status) = sink.open(alloc, &names.all(), &searched.inputs(request.file)) {
         return Err(Refusal::Reported(status));
     }
-    match split_and_write(
-        system, alloc, sink, request, &names, &searched, start, keeper,
-    ) {
-        Ok(status) => Ok(status),
-        Err(error) => Err(Refusal::File(request.file, error)),
-    }
-}
-
-/// Splits the search of what was read, from a start or any permutation, and writes the parts.
-fn split_and_write<T, S, K>(
-    system: &T,
-    alloc: Global,
-    sink: &mut S,
-    request: &SplitRequest<'_>,
-    names: &PartFiles,
-    searched: &Searched,
-    start: Option<Perm>,
-    keeper: &K,
-) -> Result<Status, PlannerError>
-where
-    T: Threads + Wait + time::Clock + Sync,
-    S: Sink,
-    K: Keeper,
-    requires limited { AreLimited request.now.options }
-    requires root { IsRoot searched.now.instance.size searched.now.root }
-    requires start { IfSome start (Permutes searched.now.instance) }
-    ensures { IfOk result (λ status. IsSuccess status → SplitsSearched S.writes S.prints request.now names.now searched.now start status sink.old sink.new) }
-{
     let options = &request.options;
     let wanted = request.parts as usize;
-    let skeleton = split_up(system, alloc, searched, start, options, wanted, keeper)?;
-    Ok(write_parts(alloc, sink, request, names, &skeleton))
+    match split_up(system, alloc, &searched, start, options, wanted, keeper) {
+        Ok(skeleton) => Ok(write_parts(alloc, sink, request, &names, &skeleton)),
+        Err(error) => Err(Refusal::File(request.file, error)),
+    }
 }
 
 /// The permutation with which the search begins: the solution in the file that is named, or else the plan's own, if it
