@@ -220,16 +220,17 @@ impl Round {
         }
     }
 
-    /// Leaves a job that it is through with: `false` if the round is over. A worker that lacks the best permutation takes no nodes.
+    /// Leaves a job that it is through with: `false` if the round is over, and from then on. A worker that lacks the best permutation
+    /// takes no nodes.
     fn leave(&mut self, hand: &mut Hand) -> bool
         ensures accepted { hand.new.accepted ≡ hand.old.accepted }
         ensures instance { hand.new.instance ≡ hand.old.instance }
         ensures lease { hand.new.lease ≡ hand.old.lease }
     {
-        self.kinds = 0;
         if self.turned < hand.others().min(self.most) && !self.is_last {
             hand.turn_to(self.turned);
             self.turned += 1;
+            self.kinds = 0;
             return true;
         }
         if self.takes || self.lack.is_some() {
@@ -237,6 +238,7 @@ impl Round {
         }
         self.takes = true;
         self.turned = 0;
+        self.kinds = 0;
         true
     }
 }
