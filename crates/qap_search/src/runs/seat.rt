@@ -77,10 +77,11 @@ impl<L: Law> Seat<L> {
     /// Works until the space is closed, the gate ends the worker or memory runs out.
     pub(crate) fn work<R: Wait, G: Gate>(&mut self, place: &Workplace<'_, R, L, G>) {
         for _ in place.rt.forever() {
-            if let Err(ended) = think_on_all(&mut self.hand, place.gate) {
+            let most = place.gate.steps_in_a_row() / STEPS_PER_NODE;
+            if let Err(ended) = think_on_all(&mut self.hand, place.gate, most) {
                 self.ended = Some(ended);
             }
-            self.round = Round::new(place.gate.steps_in_a_row() / STEPS_PER_NODE);
+            self.round = Round::new(most);
             self.go_on_at(place);
             if self.ended.is_none() {
                 self.ended = wait_at(place, self.round.lack).err();
@@ -316,14 +317,15 @@ fn step<L: Law, M: Room<L>>(
     Ok(accepted)
 }
 
-/// Evaluates each of its nodes that is due, and prepares its writes. The error is how the worker ends.
-fn think_on_all<G: Gate>(hand: &mut Hand, gate: &G) -> Result<(), Ended>
+/// Evaluates the node of its job, and those of at most so many others, where that is due, and prepares its writes. The error is how
+/// the worker ends.
+fn think_on_all<G: Gate>(hand: &mut Hand, gate: &G, most: usize) -> Result<(), Ended>
     ensures accepted { hand.new.accepted ≡ hand.old.accepted }
     ensures instance { hand.new.instance ≡ hand.old.instance }
     ensures lease { hand.new.lease ≡ hand.old.lease }
 {
     think(hand, gate)?;
-    for other in 0..hand.others() {
+    for other in 0..hand.others().min(most) {
         hand.turn_to(other);
         think(hand, gate)?;
     }
