@@ -266,7 +266,7 @@ pub(crate) fn with_improvement<'a>(
                 .value_name("ITERATIONS")
                 .value_parser(value_parser!(u64))
                 .help(
-                    "number of exchanges that a tabu search makes first; 5000 by default, and under a time limit as many as fit in a part of it",
+                    "number of exchanges that a tabu search makes first; 5000 by default, and then more in further searches",
                 ),
         )?
         .arg(

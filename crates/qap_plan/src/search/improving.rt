@@ -1,12 +1,12 @@
-//! Improves a permutation by tabu searches before the search for a proof begins: one with a number of iterations, or,
-//! under a time limit, several side by side for a part of the time.
+//! Improves a permutation by tabu searches before the search for a proof begins: some in turn, and under a time limit
+//! several more side by side for a part of the time.
 
 ghost use Rattle.std.specs.Prelude.{IfOk, length, true, ◌≡◌, ◌≤ℤ◌};
 ghost use Rattle.qap_cost.specs.Objective.{Permutes, cost_of};
 ghost use Rattle.qap_cost.specs.Placement.{Completes};
 
 use crate::search::keeper::Keeper;
-use crate::search::options::Options;
+use crate::search::options::{Options, free_in};
 use plan_file::{completed, completes, improved_keeping};
 use qap_cost::{Instance, Partial, Perm, cost};
 use qap_improve::{Hook, TabuPlan};
@@ -19,6 +19,12 @@ use std::{thread, time};
 
 /// How many iterations a search makes for each facility before it begins again elsewhere.
 const ITERATIONS: u64 = 2_000;
+
+/// How many a search in turn makes for each free facility.
+const ITERATIONS_IN_TURN: u64 = 400;
+
+/// How many it makes at most, times the square of the number of facilities.
+const WORK_IN_TURN: u64 = 50_000_000;
 
 /// For how many milliseconds the calling thread pauses before it looks again whether the time is over.
 const PAUSE_MS: u64 = 2;
@@ -45,15 +51,51 @@ where
     let plan = options.tabu_plan();
     let mut hook = UntilStopped { keeper };
     let first = improved_keeping(alloc, instance, node, &start, &plan, &mut hook)?;
+    let best = improved_in_turn(alloc, instance, node, first.permutation, options, &mut hook)?;
     let Some(end) = options.improving_until(node) else {
-        return Ok(first.permutation);
+        return Ok(best);
     };
-    let best = first.permutation;
     let found = side_by_side(system, alloc, instance, node, &best, options, (keeper, end))?;
     if is_better(instance, node, &found, &best) {
         Ok(found)
     } else {
         Ok(best)
+    }
+}
+
+/// The best permutation that an iterated tabu search (Misevicius 2004) finds: each of its searches begins with exchanges at
+/// random of the best permutation so far.
+fn improved_in_turn<H: Hook>(
+    alloc: Global,
+    instance: &Instance,
+    node: &Partial,
+    start: Perm,
+    options: &Options,
+    hook: &mut H,
+) -> Result<Perm, AllocError>
+    requires size { node.now.size ≡ instance.now.size }
+    requires start { Completes node.now start }
+    ensures completes { IfOk result (Completes node.now) }
+    ensures no_dearer { IfOk result (λ p. cost_of instance.now p ≤ℤ cost_of instance.now start) }
+{
+    let mut best = start;
+    for round in 0..options.searches_in_turn(node) {
+        let plan = plan_in_turn(node, options.seed, round);
+        best = improved_keeping(alloc, instance, node, &best, &plan, hook)?.permutation;
+    }
+    Ok(best)
+}
+
+/// The plan of a search in turn: it begins with exchanges at random, a third to two thirds as many as there are facilities.
+fn plan_in_turn(node: &Partial, seed: u64, round: u32) -> TabuPlan {
+    let n = node.size() as u64;
+    let third = n / 3;
+    let more = u64::from(round).wrapping_mul(7) % (third + 1);
+    let iterations = ITERATIONS_IN_TURN.saturating_mul(free_in(node));
+    TabuPlan {
+        seed: seed.wrapping_add(u64::from(round)).wrapping_add(1),
+        kicks: (third + more) as u32,
+        iterations: iterations.min(WORK_IN_TURN / n.saturating_mul(n).max(1)),
     }
 }
 

@@ -19,7 +19,13 @@ const LEASE_MS: u64 = 600_000;
 const ITERATIONS: u64 = 5000;
 
 /// Up to this many free facilities that search nearly always finds an optimum.
+const LARGEST_FOR_ONE: u64 = 12;
+
+/// Up to this many free facilities a few searches in turn nearly always find one.
 const LARGEST_EASY: u64 = 20;
+
+/// How many searches in turn follow the first one.
+const SEARCHES_IN_TURN: u32 = 8;
 
 /// With more free facilities than this a proof is rarely in reach.
 const LARGEST_PROVED: u64 = 36;
@@ -80,7 +86,19 @@ impl Options {
         }
     }
 
-    /// Until how many milliseconds after the beginning of the run tabu searches continue side by side after it: where no
+    /// How many more follow it in turn: some, unless a number of iterations is given, few facilities are free, or searches side by
+    /// side follow.
+    pub fn searches_in_turn(&self, root: &Partial) -> u32 {
+        let free = free_in(root);
+        let has_others = self.milliseconds.is_some() && free > LARGEST_EASY;
+        if self.improve.is_some() || free <= LARGEST_FOR_ONE || has_others {
+            0
+        } else {
+            SEARCHES_IN_TURN
+        }
+    }
+
+    /// Until how many milliseconds after the beginning of the run tabu searches continue side by side after these: where no
     /// number of iterations is given, for a part of the time limit that grows with the number of facilities that the root
     /// leaves free. From 37 on, where a proof is rarely in reach, that is three quarters of it.
     pub fn improving_until(&self, root: &Partial) -> Option<u64> {

@@ -14,7 +14,7 @@ use crate::search::planning::Planned;
 use dual_ascent::Effort;
 use gilmore_lawler::RankedInstance;
 use node_split::NodeSplit;
-use part_search::{Answer, Ground, Task, Watch, solve};
+use part_search::{Answer, Crew, Ground, Task, Watch, solve};
 use qap_cost::{Instance, Partial, Perm, cost};
 use std::alloc::{AllocError, Global};
 use std::cell::Cell;
@@ -35,6 +35,10 @@ const MAX_EXPONENT: u32 = 16;
 
 /// How many leading zeros a cost of 2^15 has in 128 bits.
 const SPARE_BITS: u32 = 112;
+
+/// How many nodes are split by the bounds of Gilmore and Lawler before pair duals of the root are found. An easy instance
+/// is solved by then, in less time than these take.
+const EASY_NODES: u64 = 500;
 
 /// In how many rounds of the thread that keeps the space the progress is shown once.
 const ROUNDS_PER_LOOK: u32 = 128;
@@ -60,25 +64,96 @@ where
     ensures pair_proof { IfOk result (λ x. x.pair_proof ≡ None) }
 {
     let start_cost = cost(instance, start);
-    let ground = ground_for(alloc, instance, root, options, scale_for(start_cost))?;
     let watcher = Watcher {
         within,
         cost: start_cost,
         looks: Cell::new(0),
     };
+    let easy = searched_briefly(system, alloc, instance, root, start, options, &watcher)?;
+    if let Some(found) = easy {
+        return Ok(found);
+    }
+    let ground = ground_for(alloc, instance, root, options, scale_for(start_cost))?;
     let task = Task {
         ground: &ground,
         root,
         start,
         stop: &watcher,
     };
-    let answer = solve(system, alloc, &task, options.crew())?;
-    let found = found_by(&answer)?;
+    let found = searched_on(system, alloc, instance, &task, options.crew())?;
     if found.open_nodes == 0 {
         return Ok(found);
     }
     let bound = root_bound(alloc, instance, root)?;
     Ok(with_bound(found, bound))
+}
+
+/// What a search by the bounds of Gilmore and Lawler yields if it ends within a few nodes; `None` if it does not, or if
+/// these are the bounds of the whole search.
+fn searched_briefly<T, K>(
+    system: &T,
+    alloc: Global,
+    instance: &Instance,
+    root: &Partial,
+    start: &Perm,
+    options: &Options,
+    watcher: &Watcher<'_, '_, K>,
+) -> Result<Option<Planned>, AllocError>
+where
+    T: Threads + Wait + time::Clock + Sync,
+    K: Keeper,
+    requires limited { AreLimited options.now }
+    requires start { Permutes instance.now start.now }
+    requires same_size { root.now.size ≡ instance.now.size }
+    ensures searched { IfOk result (λ found. IfSome found (λ x. IsSearched instance.now root.now start.now x.permutation x.cost x.bound)) }
+    ensures proof { IfOk result (λ found. IfSome found (λ x. x.proof ≡ None)) }
+    ensures pair_proof { IfOk result (λ found. IfSome found (λ x. x.pair_proof ≡ None)) }
+{
+    if options.nodes.is_some() || !has_few_free(root) {
+        return Ok(None);
+    }
+    let ground = Arc::new(alloc, Ground::by_rows(alloc, instance)?)?;
+    let task = Task {
+        ground: &ground,
+        root,
+        start,
+        stop: watcher,
+    };
+    let crew = Crew {
+        limit: Some(EASY_NODES),
+        ..options.crew()
+    };
+    let found = searched_on(system, alloc, instance, &task, crew)?;
+    if found.open_nodes == 0 {
+        Ok(Some(found))
+    } else {
+        Ok(None)
+    }
+}
+
+/// What a search by these workers yields.
+fn searched_on<T, S>(
+    system: &T,
+    alloc: Global,
+    instance: &Instance,
+    task: &Task<'_, S>,
+    crew: Crew,
+) -> Result<Planned, AllocError>
+where
+    T: Threads + Wait + time::Clock + Sync,
+    S: Watch,
+    requires some { 0 < crew.workers }
+    requires few { crew.workers ≤ 64 }
+    requires same { arc_value task.now.ground.now ≡ instance.now }
+    requires start { Permutes instance.now task.now.start.now }
+    requires same_size { task.now.root.now.size ≡ instance.now.size }
+    ensures searched { IfOk result (λ x. IsSearched instance.now task.now.root.now task.now.start.now x.permutation x.cost x.bound) }
+    ensures proof { IfOk result (λ x. x.proof ≡ None) }
+    ensures pair_proof { IfOk result (λ x. x.pair_proof ≡ None) }
+{
+    let answer = solve(system, alloc, task, crew)?;
+    let found = found_by(&answer)?;
+    Ok(found)
 }
 
 /// Whether a root has few enough free facilities for pair duals.
