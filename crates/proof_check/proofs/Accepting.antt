@@ -9,12 +9,15 @@ use Rattle.qap_cost.specs.Placement.{Placement}
 use Rattle.pair_duals.specs.CostStep.{step_of}
 use Rattle.qap_proof.specs.declared.acceptance.Verdict.{Verdict}
 use Rattle.qap_proof.proofs.OneText.{no_line-end}
+use Rattle.qap_proof.specs.declared.leaf.Leaf.{Leaf}
+use Rattle.proof_tree.proofs.Leaves.{HasLeaves-valid}
 use Rattle.proof_tree.specs.Claim.{pair_claim, pair_proof_text}
+use Rattle.proof_tree.specs.Leaves.{HasLeaves}
 use Rattle.proof_tree.specs.Shape.{HasShape}
 use Rattle.proof_tree.specs.Text.{tree_text}
 use Rattle.proof_tree.specs.Tree.{Tree}
 use Rattle.proof_tree.specs.Valid.{Valid}
-use Rattle.proof_check.specs.Acceptance.{IsPairVerdictOf, ReadsHead, ReadsVerdict, ShowsPairVerdict, pair_head_text}
+use Rattle.proof_check.specs.Acceptance.{IsPairVerdictOf, ReadsHead, ReadsLeaves, ReadsVerdict, ShowsPairVerdict, pair_head_text}
 use Rattle.proof_check.specs.Completeness.{BeginsWithLine, HasHead, HasTree, IsCurrent, IsHeadOf}
 use Rattle.proof_check.specs.Walk.{WalksTree}
 
@@ -22,10 +25,10 @@ use Rattle.proof_check.specs.Walk.{WalksTree}
 pub step-positive : (I : Problem) (step : ℕ) → step ≡ step_of I → 0 < step
 step-positive I step is = omega (arith, is)
 
--- a proof's head, its tree and its last line were read, and with them its verdict
-pub ReadsVerdict-all : (I : Problem) (step : ℕ) (x : Placement) (cost bound : ℤ) (p line last : List ℕ) (a b c d : Option (List ℕ)) (verdict : Verdict) → step ≡ step_of I → ReadsHead x cost bound p line a b → length p ≡ I.size → cost_of I p ≡ cost
-    → WalksTree I step bound x None line b c → Consumes c d (last ++ 10 ∷ []) → last ≡ codes "end" → IsAtEnd d → ((p : List ℕ) (t : Tree) → IsPairVerdictOf (pair_claim x cost bound p t) verdict) → ReadsVerdict I a verdict
-ReadsVerdict-all I step x cost bound p line last a b c d verdict step_is head size costs w read end at_end says =
+-- a proof's head, its tree and its last line were read, and with them its leaves
+pub ReadsLeaves-all : (I : Problem) (step : ℕ) (x : Placement) (cost bound limit : ℤ) (p line last : List ℕ) (a b c d : Option (List ℕ)) (ls : List Leaf) → step ≡ step_of I → ReadsHead x cost bound p line a b → length p ≡ I.size → cost_of I p ≡ cost
+    → WalksTree I step bound limit x None line b c [] ls → Consumes c d (last ++ 10 ∷ []) → last ≡ codes "end" → IsAtEnd d → ReadsLeaves I a x cost bound limit ls
+ReadsLeaves-all I step x cost bound limit p line last a b c d ls step_is head size costs w read end at_end =
     let H = pair_head_text x cost bound p in
     let C = pair_claim x cost bound p w.tree in
     let E = last ++ 10 ∷ [] in
@@ -33,19 +36,36 @@ ReadsVerdict-all I step x cost bound p line last a b c d verdict step_is head si
     let all : Consumes a d ((first ++ w.text) ++ E) = Consumes-trans a c d (first ++ w.text) E (Consumes-trans a b c first w.text head.consumed w.consumed) read in
     let tree_is : first ++ w.text ≡ H ++ tree_text w.tree = append_assoc (H ++ line) (10 ∷ []) w.text ∙ append_assoc H line (10 ∷ w.text) ∙ ap (λ l. H ++ l) w.is in
     let whole : (first ++ w.text) ++ E ≡ pair_proof_text C = ap (λ l. l ++ E) tree_is ∙ ap (λ l. (H ++ tree_text w.tree) ++ (l ++ 10 ∷ [])) end in
+    let has : HasLeaves I (step_of I) bound limit x None w.tree ls =
+    subst (λ (k : ℕ). HasLeaves I k bound limit x None w.tree ls) step_is (subst (HasLeaves I step bound limit x None w.tree) (sym w.listed) w.valid) in
     record {
       text = pair_proof_text C;
       whole = Consumes-whole a d ((first ++ w.text) ++ E) (λ xs. xs ≡ pair_proof_text C) all at_end whole;
       shows = record {
-        proof = C;
+        permutation = p;
+        tree = w.tree;
         is_text = record {
           proof = record { cost = head.cost; bound = head.bound; permutation = head.permutation; root = head.root; tree = w.shape };
           is = refl;
         };
-        proved = record { same_size = size; cost = costs; tree = subst (λ (k : ℕ). Valid I k bound x None w.tree) step_is w.valid };
-        says = says p w.tree;
+        proved = record { same_size = size; cost = costs; tree = HasLeaves-valid w.tree I (step_of I) bound limit x None ls has };
+        leaves = has;
       };
     }
+
+-- a proof whose leaves were read has its verdict
+pub ReadsVerdict-leaves : (I : Problem) (old : Option (List ℕ)) (x : Placement) (c g limit : ℤ) (ls : List Leaf) (v : Verdict) → ReadsLeaves I old x c g limit ls → ((p : List ℕ) (t : Tree) → IsPairVerdictOf (pair_claim x c g p t) v)
+    → ReadsVerdict I old v
+ReadsVerdict-leaves I old x c g limit ls v h says = record {
+  text = h.text;
+  whole = h.whole;
+  shows = record {
+    proof = pair_claim x c g h.shows.permutation h.shows.tree;
+    is_text = h.shows.is_text;
+    proved = h.shows.proved;
+    says = says h.shows.permutation h.shows.tree;
+  };
+}
 
 -- ---- a text of a proof that establishes a verdict
 

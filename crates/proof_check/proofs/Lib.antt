@@ -1,6 +1,7 @@
 pub mod Accepting
 pub mod ClosedRefusals
 pub mod Closing
+pub mod Greatest
 pub mod HeadRefusals
 pub mod HeadSteps
 pub mod Heads
@@ -11,6 +12,7 @@ pub mod Layers
 pub mod Lines
 pub mod ListedDuals
 pub mod ListedOnce
+pub mod Minima
 pub mod Multiples
 pub mod OneDuals
 pub mod Passing

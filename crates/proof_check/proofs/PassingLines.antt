@@ -1,6 +1,6 @@
 -- The line of a node and the children of a split, in a text that begins with that of a valid tree.
 use Rattle.std.proofs.Common.{◌≡◌, ℕ, ◌+◌, ◌<◌, ◌^◌, ◌++◌, List, [], ◌∷◌, length, get_or, ℤ, pos, refl, sym, ◌∙◌, ap, subst, inl, arith}
-use Rattle.std.specs.Prelude.{codes, true, Option, None, Some, MatchOption, ◌<ℤ◌, ◌*ℤ◌}
+use Rattle.std.specs.Prelude.{codes, true, IfErr, Option, None, Some, MatchOption, Result, Ok, Err}
 use Rattle.std.proofs.lemmas.Int.{ints}
 use Rattle.std.proofs.lemmas.List.{append_cancel_right}
 use Rattle.qap_cost.specs.Instance.{Problem}
@@ -21,8 +21,7 @@ use Rattle.proof_tree.specs.Text.{marks, split_text}
 use Rattle.proof_tree.specs.Tree.{Children, NodeDuals, PairRows, Tree, child_count, closed, column_of, child_on, grown, image, leaf, no_children, row_of, split}
 use Rattle.proof_tree.specs.Valid.{AllValid, Begins, IsClosed, IsLined, ReachesBound, Under, Valid, under}
 use Rattle.proof_check.specs.Acceptance.{IsInterruption}
-use Rattle.proof_check.specs.Completeness.{HasChildren, HasLined, HasSplit, RefusesNode}
-use Rattle.proof_check.specs.Judge.{IsGreatestBelow}
+use Rattle.proof_check.specs.Completeness.{HasChildren, HasLined, HasSplit, Leaves, RefusesNode}
 use Rattle.proof_check.specs.Walk.{own_of}
 use Rattle.proof_check.proofs.SameForms.{AreSame, IsChild-same, IsClosed-same, IsLine-same, one_line}
 use Rattle.proof_check.proofs.Passing.{bare_parts}
@@ -87,17 +86,9 @@ lined_leaf I step bound y D R line u old rest is limited line_is h =
     let parts = bare_parts h.has.tree y true line old rest is h.has.shape h.bare h.has.current in
     leaf_here h.has.tree I step bound y D R u old rest limited h.has.shape h.bare (sym line_is ∙ parts.0) parts.1 h.has.valid
 
--- such a leaf closes
-pub leaf_closes : (I : Problem) (step : ℕ) (bound below : ℤ) (y : Placement) (D : Duals) (R S : Form) (u v : List ℤ) (threshold : ℤ) (old : Option (List ℕ)) (rest : List ℕ) → IsGreatestBelow step bound below → threshold ≡ pos D.scale *ℤ below → Draws R S u v
-    → IsLeafHere I step bound y R D u old rest → threshold <ℤ S.value
-leaf_closes I step bound below y D R S u v threshold old rest greatest scaled drawn h =
-    let same = (one_line R h.form S u h.v v h.line drawn).value in
-    let past = h.reaches greatest.times (below_less greatest) in
-    let e = ap (λ z. pos D.scale *ℤ z) greatest.multiple in
-    omega (arith, ints, same, past, e, scaled)
-  where
-    below_less : (g : IsGreatestBelow step bound below) → (pos step *ℤ g.times) <ℤ bound
-    below_less g = let less = g.less in let multiple = g.multiple in omega (arith, ints, less, multiple)
+-- such a leaf reaches the bound
+pub leaf_reaches : (I : Problem) (step : ℕ) (bound : ℤ) (y : Placement) (D : Duals) (R S : Form) (u v : List ℤ) (old : Option (List ℕ)) (rest : List ℕ) → Draws R S u v → IsLeafHere I step bound y R D u old rest → ReachesBound step bound D.scale S.value
+leaf_reaches I step bound y D R S u v old rest drawn h = subst (ReachesBound step bound D.scale) (one_line R h.form S u h.v v h.line drawn).value h.reaches
 
 -- ---- children under forms that are the same
 
@@ -192,3 +183,8 @@ Valid-same (split d side number ts) I step bound y D R S same h = (h.0, h.1, lin
 pub place_found : (number own : ℕ) (r : Option ℕ) (list free : List ℕ) → r ≡ Some own → MatchOption r ((place : ℕ) → IsPlaceOf list number place → ⊥) (IsPlaceOf list number) → list ≡ free → IsPlaceOf free number own
 place_found number own r list free found h same =
     subst (λ (l : List ℕ). IsPlaceOf l number own) same (subst (λ (o : Option ℕ). MatchOption o ((place : ℕ) → IsPlaceOf list number place → ⊥) (IsPlaceOf list number)) found h)
+
+-- where what has the property stays as it was, and is refused only if it does not reach something that it reaches
+pub checked : {T : Type 0} (P : List ℕ → Type 0) (old : Option (List ℕ)) (r : Result T ProofError) → ((rest : List ℕ) → P rest → old ≡ Some rest) → {Q : Type 0} → ((rest : List ℕ) → P rest → Q) → IfErr r (λ e. Q → IsInterruption e) → Leaves P old r
+checked P old (Ok x) known reaches refused = known
+checked P old (Err e) known reaches refused = λ rest h. refused (reaches rest h)

@@ -10,12 +10,14 @@ use Rattle.qap_lines.specs.LineText.{line_text, numbers_text}
 use Rattle.pair_duals.specs.PairDuals.{Duals, Fit}
 use Rattle.pair_duals.specs.Reduced.{Form, IsChild, IsLine, IsStart}
 use Rattle.qap_proof.specs.Shape.{free_count}
+use Rattle.qap_proof.specs.declared.leaf.Leaf.{Leaf}
 use Rattle.qap_proof.specs.declared.side.Side.{Side}
+use Rattle.proof_tree.specs.Leaves.{AllHaveLeaves, HasLeaves}
 use Rattle.proof_tree.specs.Shape.{AreLimited, ArePairRows, AreNodeDuals, HasShape, AllHaveShape}
 use Rattle.proof_tree.specs.Text.{image_text, own_text, rows_text, tree_text, children_text, split_text, marks}
 use Rattle.proof_tree.specs.Tree.{PairRows, NodeDuals, Tree, leaf, split, Children, no_children, closed, image, grown, child_count, row_of, column_of, child_on}
-use Rattle.proof_tree.specs.Valid.{AreListed, Begins, IsClosed, IsLined, ReachesBound, Under, under, Valid, AllValid}
-use Rattle.proof_check.specs.Walk.{SaysImage, WalksChild, WalksChildren, WalksLined, WalksSplit, WalksTree, is_there, own_of}
+use Rattle.proof_tree.specs.Valid.{AreListed, Begins, IsClosed, IsLined, ReachesBound, Under, under}
+use Rattle.proof_check.specs.Walk.{PushesLeaf, SaysImage, WalksChild, WalksChildren, WalksLined, WalksSplit, WalksTree, is_there, own_of}
 use Rattle.proof_check.proofs.Lines.{line_text-named}
 
 -- the duals of a node that has no pair duals of its own
@@ -29,24 +31,27 @@ stated : (y : Placement) (m : ℕ) (u : List ℤ) → m ≡ free_count y → Are
 stated y m u same limited = record { own = refl; u = subst (λ (k : ℕ). AreLimited k u) same limited }
 
 -- a leaf
-pub WalksLined-leaf : (I : Problem) (step : ℕ) (bound : ℤ) (y : Placement) (D : Duals) (old new : Form) (m : ℕ) (u v : List ℤ) (line : List ℕ) (a : Option (List ℕ)) → m ≡ free_count y → AreLimited m u → line ≡ codes "x" ++ numbers_text u → IsLine old new u v
-    → ReachesBound step bound D.scale new.value → WalksLined I step bound y (under D old) line a a
-WalksLined-leaf I step bound y D old new m u v line a same limited is drawn reaches = record {
+pub WalksLined-leaf : (I : Problem) (step : ℕ) (bound cost : ℤ) (y : Placement) (D : Duals) (old new : Form) (m : ℕ) (u v : List ℤ) (line : List ℕ) (a : Option (List ℕ)) (before after : List Leaf) → m ≡ free_count y → AreLimited m u → line ≡ codes "x" ++ numbers_text u → IsLine old new u v
+    → PushesLeaf (λ g. ReachesBound step g D.scale new.value) bound cost y before after → WalksLined I step bound cost y (under D old) line a a before after
+WalksLined-leaf I step bound cost y D old new m u v line a before after same limited is drawn pushed = record {
   walked = record {
     text = [];
     consumed = Consumes-nil a;
     tree = leaf (duals_without u);
     is = line_text-named (codes "x") line u is;
     shape = stated y m u same limited;
-    valid = (under D new, lined I y D old new u v drawn, reaches);
+    leaves = pushed.leaves;
+    listed = pushed.listed;
+    valid = (under D new, lined I y D old new u v drawn, pushed.below);
   };
   bare = refl;
 }
 
 -- a split and its children
-pub WalksLined-split : (I : Problem) (step : ℕ) (bound : ℤ) (y : Placement) (D : Duals) (old new : Form) (m : ℕ) (u v : List ℤ) (side : Side) (number : ℕ) (marked line : List ℕ) (a b : Option (List ℕ)) → m ≡ free_count y → length y.facilities + free_count y ≡ y.size
-    → AreLimited m u → length marked ≡ m → line ++ 10 ∷ [] ≡ split_text side number marked u → IsLine old new u v → WalksSplit I step bound y (under D new) side number marked a b → WalksLined I step bound y (under D old) line a b
-WalksLined-split I step bound y D old new m u v side number marked line a b same whole limited long is drawn h =
+pub WalksLined-split : (I : Problem) (step : ℕ) (bound cost : ℤ) (y : Placement) (D : Duals) (old new : Form) (m : ℕ) (u v : List ℤ) (side : Side) (number : ℕ) (marked line : List ℕ) (a b : Option (List ℕ)) (before after : List Leaf) → m ≡ free_count y → length y.facilities + free_count y ≡ y.size
+    → AreLimited m u → length marked ≡ m → line ++ 10 ∷ [] ≡ split_text side number marked u → IsLine old new u v → WalksSplit I step bound cost y (under D new) side number marked a b before after
+    → WalksLined I step bound cost y (under D old) line a b before after
+WalksLined-split I step bound cost y D old new m u v side number marked line a b before after same whole limited long is drawn h =
     let w = h.walked in
     let all : take (length marked) marked ≡ marked = take_whole marked in
     let marked_is : marks w.children ≡ marked = w.marks_are ∙ all in
@@ -58,6 +63,8 @@ WalksLined-split I step bound y D old new m u v side number marked line a b same
         tree = split (duals_without u) side number w.children;
         is = sym (append_assoc line (10 ∷ []) w.text) ∙ ap (λ l. l ++ w.text) is ∙ ap (λ l. split_text side number l u ++ w.text) (sym marked_is) ∙ ap (λ l. split_text side number (marks w.children) u ++ l) w.is;
         shape = (stated y m u same limited, h.own, h.place, count, w.shapes);
+        leaves = w.leaves;
+        listed = w.listed;
         valid = (under D new, h.own, lined I y D old new u v drawn, h.place, omega (arith, count, whole), w.valid);
       };
       bare = refl;
@@ -98,14 +105,16 @@ begun I y D R P d above now bare listed fit start h =
     begins_own I y None P D R a b c = (a, b, c)
     begins_own I y (Some x) P D R a b c = (a, b, c)
 
-with_own-valid : (P : PairRows) (t : Tree) (I : Problem) (step : ℕ) (bound : ℤ) (y : Placement) (D : Duals) (R : Form) (above : Option Under) → own_of t ≡ None → AreListed y P D → Fit I D → IsStart I D y R → Valid I step bound y (Some (under D R)) t → Valid I step bound y above (with_own P t)
-with_own-valid P (leaf d) I step bound y D R above bare listed fit start h = (h.0, begun I y D R P d above h.0 bare listed fit start h.1, h.2)
-with_own-valid P (split d side number ts) I step bound y D R above bare listed fit start h = (h.0, h.1, begun I y D R P d above h.0 bare listed fit start h.2, h.3, h.4, h.5)
+with_own-valid : (P : PairRows) (t : Tree) (I : Problem) (step : ℕ) (bound cost : ℤ) (y : Placement) (D : Duals) (R : Form) (above : Option Under) (ls : List Leaf) → own_of t ≡ None → AreListed y P D → Fit I D → IsStart I D y R
+    → HasLeaves I step bound cost y (Some (under D R)) t ls → HasLeaves I step bound cost y above (with_own P t) ls
+with_own-valid P (leaf d) I step bound cost y D R above ls bare listed fit start h = (h.0, begun I y D R P d above h.0 bare listed fit start h.1, h.2)
+with_own-valid P (split d side number ts) I step bound cost y D R above ls bare listed fit start h = (h.0, h.1, begun I y D R P d above h.0 bare listed fit start h.2, h.3, h.4, h.5)
 
 -- the line of the scale, the rows, and the tree by them
-pub WalksTree-own : (I : Problem) (step : ℕ) (bound : ℤ) (y : Placement) (above : Option Under) (D : Duals) (R : Form) (P : PairRows) (line next : List ℕ) (a b c d : Option (List ℕ)) → line ≡ codes "p" ++ numbers_text (pos P.scale ∷ []) → ArePairRows (free_count y) P → Consumes a b (rows_text P.rows)
-    → Consumes b c (next ++ 10 ∷ []) → AreListed y P D → Fit I D → IsStart I D y R → WalksLined I step bound y (under D R) next c d → WalksTree I step bound y above line a d
-WalksTree-own I step bound y above D R P line next a b c d is rows read advanced listed fit start h =
+pub WalksTree-own : (I : Problem) (step : ℕ) (bound cost : ℤ) (y : Placement) (above : Option Under) (D : Duals) (R : Form) (P : PairRows) (line next : List ℕ) (a b c d : Option (List ℕ)) (before after : List Leaf) → line ≡ codes "p" ++ numbers_text (pos P.scale ∷ []) → ArePairRows (free_count y) P → Consumes a b (rows_text P.rows)
+    → Consumes b c (next ++ 10 ∷ []) → AreListed y P D → Fit I D → IsStart I D y R → WalksLined I step bound cost y (under D R) next c d before after
+    → WalksTree I step bound cost y above line a d before after
+WalksTree-own I step bound cost y above D R P line next a b c d before after is rows read advanced listed fit start h =
     let w = h.walked in
     let rest = (next ++ 10 ∷ []) ++ w.text in
     let tree_is : rest ≡ tree_text w.tree = append_assoc next (10 ∷ []) w.text ∙ w.is in
@@ -116,14 +125,17 @@ WalksTree-own I step bound y above D R P line next a b c d is rows read advanced
       is = sym (append_assoc line (10 ∷ []) (rows_text P.rows ++ rest)) ∙ ap (λ l. l ++ (rows_text P.rows ++ rest)) (line_text-named (codes "p") line (pos P.scale ∷ []) is)
           ∙ sym (append_assoc (line_text (codes "p") (pos P.scale ∷ [])) (rows_text P.rows) rest) ∙ ap (λ l. own_text (Some P) ++ l) tree_is ∙ sym (with_own-text P w.tree h.bare);
       shape = with_own-shape P w.tree y (is_there above) rows w.shape;
-      valid = with_own-valid P w.tree I step bound y D R above h.bare listed fit start w.valid;
+      leaves = w.leaves;
+      listed = w.listed;
+      valid = with_own-valid P w.tree I step bound cost y D R above w.leaves h.bare listed fit start w.valid;
     }
 
 -- ---- one child
 
 -- a child that is closed without a text
-pub WalksChild-closed : (I : Problem) (step : ℕ) (bound : ℤ) (y : Placement) (now : Under) (side : Side) (own c : ℕ) (a : Option (List ℕ)) → IsClosed I step bound now (row_of side own c) (column_of side own c) → WalksChild I step bound y now side own c 46 a a
-WalksChild-closed I step bound y now side own c a h = record {
+pub WalksChild-closed : (I : Problem) (step : ℕ) (bound cost : ℤ) (y : Placement) (now : Under) (side : Side) (own c : ℕ) (a : Option (List ℕ)) (before after : List Leaf)
+    → PushesLeaf (λ g. IsClosed I step g now (row_of side own c) (column_of side own c)) bound cost (child_on side y own c) before after → WalksChild I step bound cost y now side own c 46 a a before after
+WalksChild-closed I step bound cost y now side own c a before after h = record {
   text = [];
   consumed = Consumes-nil a;
   children = closed no_children;
@@ -131,12 +143,15 @@ WalksChild-closed I step bound y now side own c a h = record {
   marks_are = refl;
   is = refl;
   shapes = tt;
-  valid = (h, tt);
+  leaves = h.leaves;
+  listed = h.listed;
+  valid = (h.leaves, [], sym (append-nil h.leaves), h.below, refl);
 }
 
 -- a child that is the image of an earlier one
-pub WalksChild-image : (I : Problem) (step : ℕ) (bound : ℤ) (y : Placement) (now : Under) (side : Side) (own c : ℕ) (line : List ℕ) (a b : Option (List ℕ)) → Consumes a b (line ++ 10 ∷ []) → SaysImage I y side own c line → WalksChild I step bound y now side own c 43 a b
-WalksChild-image I step bound y now side own c line a b read h = record {
+pub WalksChild-image : (I : Problem) (step : ℕ) (bound cost : ℤ) (y : Placement) (now : Under) (side : Side) (own c : ℕ) (line : List ℕ) (a b : Option (List ℕ)) (before : List Leaf) → Consumes a b (line ++ 10 ∷ []) → SaysImage I y side own c line
+    → WalksChild I step bound cost y now side own c 43 a b before before
+WalksChild-image I step bound cost y now side own c line a b before read h = record {
   text = line ++ 10 ∷ [];
   consumed = read;
   children = image h.moved no_children;
@@ -144,13 +159,15 @@ WalksChild-image I step bound y now side own c line a b read h = record {
   marks_are = refl;
   is = h.is ∙ sym (append-nil (image_text h.moved));
   shapes = (h.shape, tt);
-  valid = (h.takes, tt);
+  leaves = [];
+  listed = sym (append-nil before);
+  valid = (h.takes, refl);
 }
 
 -- a child with a tree
-pub WalksChild-grown : (I : Problem) (step : ℕ) (bound : ℤ) (y : Placement) (now : Under) (side : Side) (own c : ℕ) (R : Form) (line : List ℕ) (a b d : Option (List ℕ)) → Consumes a b (line ++ 10 ∷ []) → IsChild I now.duals now.form (row_of side own c) (column_of side own c) R
-    → WalksTree I step bound (child_on side y own c) (Some (under now.duals R)) line b d → WalksChild I step bound y now side own c 43 a d
-WalksChild-grown I step bound y now side own c R line a b d read child h = record {
+pub WalksChild-grown : (I : Problem) (step : ℕ) (bound cost : ℤ) (y : Placement) (now : Under) (side : Side) (own c : ℕ) (R : Form) (line : List ℕ) (a b d : Option (List ℕ)) (before after : List Leaf) → Consumes a b (line ++ 10 ∷ []) → IsChild I now.duals now.form (row_of side own c) (column_of side own c) R
+    → WalksTree I step bound cost (child_on side y own c) (Some (under now.duals R)) line b d before after → WalksChild I step bound cost y now side own c 43 a d before after
+WalksChild-grown I step bound cost y now side own c R line a b d before after read child h = record {
   text = (line ++ 10 ∷ []) ++ h.text;
   consumed = Consumes-trans a b d (line ++ 10 ∷ []) h.text read h.consumed;
   children = grown h.tree no_children;
@@ -158,7 +175,9 @@ WalksChild-grown I step bound y now side own c R line a b d read child h = recor
   marks_are = refl;
   is = append_assoc line (10 ∷ []) h.text ∙ h.is ∙ sym (append-nil (tree_text h.tree));
   shapes = (h.shape, tt);
-  valid = (R, child, h.valid, tt);
+  leaves = h.leaves;
+  listed = h.listed;
+  valid = (R, h.leaves, [], sym (append-nil h.leaves), child, h.valid, refl);
 }
 
 -- ---- one child more
@@ -193,15 +212,32 @@ joined-shapes (closed rest) others y side own c d at h k = joined-shapes rest ot
 joined-shapes (image m rest) others y side own c d at h k = (h.0, joined-shapes rest others y side own (c + 1) d (omega (arith, at)) h.1 k)
 joined-shapes (grown t rest) others y side own c d at h k = (h.0, joined-shapes rest others y side own (c + 1) d (omega (arith, at)) h.1 k)
 
-joined-valid : (ts others : Children) (I : Problem) (step : ℕ) (bound : ℤ) (y : Placement) (now : Under) (side : Side) (own c d : ℕ) → d ≡ c + child_count ts → AllValid I step bound y now side own c ts → AllValid I step bound y now side own d others → AllValid I step bound y now side own c (joined ts others)
-joined-valid no_children others I step bound y now side own c d at h k = let same : d ≡ c = omega (arith, at) in subst (λ (i : ℕ). AllValid I step bound y now side own i others) same k
-joined-valid (closed rest) others I step bound y now side own c d at h k = (h.0, joined-valid rest others I step bound y now side own (c + 1) d (omega (arith, at)) h.1 k)
-joined-valid (image m rest) others I step bound y now side own c d at h k = (h.0, joined-valid rest others I step bound y now side own (c + 1) d (omega (arith, at)) h.1 k)
-joined-valid (grown t rest) others I step bound y now side own c d at h k = (h.0, h.1, h.2, joined-valid rest others I step bound y now side own (c + 1) d (omega (arith, at)) h.3 k)
+joined-valid : (ts others : Children) (I : Problem) (step : ℕ) (bound cost : ℤ) (y : Placement) (now : Under) (side : Side) (own c d : ℕ) (ls ks : List Leaf) → d ≡ c + child_count ts → AllHaveLeaves I step bound cost y now side own c ts ls
+    → AllHaveLeaves I step bound cost y now side own d others ks → AllHaveLeaves I step bound cost y now side own c (joined ts others) (ls ++ ks)
+joined-valid no_children others I step bound cost y now side own c d ls ks at h k =
+    let same : d ≡ c = omega (arith, at) in
+    subst (λ (l : List Leaf). AllHaveLeaves I step bound cost y now side own c others (l ++ ks)) (sym h) (subst (λ (i : ℕ). AllHaveLeaves I step bound cost y now side own i others ks) same k)
+joined-valid (closed rest) others I step bound cost y now side own c d ls ks at h k = (
+  h.0,
+  h.1 ++ ks,
+  ap (λ (l : List Leaf). l ++ ks) h.2 ∙ append_assoc h.0 h.1 ks,
+  h.3,
+  joined-valid rest others I step bound cost y now side own (c + 1) d h.1 ks (omega (arith, at)) h.4 k,
+)
+joined-valid (image m rest) others I step bound cost y now side own c d ls ks at h k = (h.0, joined-valid rest others I step bound cost y now side own (c + 1) d ls ks (omega (arith, at)) h.1 k)
+joined-valid (grown t rest) others I step bound cost y now side own c d ls ks at h k = (
+  h.0,
+  h.1,
+  h.2 ++ ks,
+  ap (λ (l : List Leaf). l ++ ks) h.3 ∙ append_assoc h.1 h.2 ks,
+  h.4,
+  h.5,
+  joined-valid rest others I step bound cost y now side own (c + 1) d h.2 ks (omega (arith, at)) h.6 k,
+)
 
 -- no child yet
-pub WalksChildren-none : (I : Problem) (step : ℕ) (bound : ℤ) (y : Placement) (now : Under) (side : Side) (own : ℕ) (marked : List ℕ) (a : Option (List ℕ)) → WalksChildren I step bound y now side own 0 marked a a
-WalksChildren-none I step bound y now side own marked a = record {
+pub WalksChildren-none : (I : Problem) (step : ℕ) (bound cost : ℤ) (y : Placement) (now : Under) (side : Side) (own : ℕ) (marked : List ℕ) (a : Option (List ℕ)) (before : List Leaf) → WalksChildren I step bound cost y now side own 0 marked a a before before
+WalksChildren-none I step bound cost y now side own marked a before = record {
   text = [];
   consumed = Consumes-nil a;
   children = no_children;
@@ -209,13 +245,15 @@ WalksChildren-none I step bound y now side own marked a = record {
   marks_are = refl;
   is = refl;
   shapes = tt;
-  valid = tt;
+  leaves = [];
+  listed = sym (append-nil before);
+  valid = refl;
 }
 
 -- one child more
-pub WalksChildren-more : (I : Problem) (step : ℕ) (bound : ℤ) (y : Placement) (now : Under) (side : Side) (own c mark : ℕ) (marked : List ℕ) (a b d : Option (List ℕ)) → c < length marked → get_or marked c 0 ≡ mark
-    → WalksChildren I step bound y now side own c marked a b → WalksChild I step bound y now side own c mark b d → WalksChildren I step bound y now side own (c + 1) marked a d
-WalksChildren-more I step bound y now side own c mark marked a b d inside is h k =
+pub WalksChildren-more : (I : Problem) (step : ℕ) (bound cost : ℤ) (y : Placement) (now : Under) (side : Side) (own c mark : ℕ) (marked : List ℕ) (a b d : Option (List ℕ)) (before mid after : List Leaf) → c < length marked → get_or marked c 0 ≡ mark
+    → WalksChildren I step bound cost y now side own c marked a b before mid → WalksChild I step bound cost y now side own c mark b d mid after → WalksChildren I step bound cost y now side own (c + 1) marked a d before after
+WalksChildren-more I step bound cost y now side own c mark marked a b d before mid after inside is h k =
     let at : c ≡ 0 + child_count h.children = omega (arith, h.counted) in
     record {
       text = h.text ++ k.text;
@@ -225,5 +263,7 @@ WalksChildren-more I step bound y now side own c mark marked a b d inside is h k
       marks_are = joined-marks h.children k.children ∙ ap₂ (λ x z. x ++ z) h.marks_are k.marks_are ∙ ap (λ z. take c marked ++ z ∷ []) (sym is) ∙ sym (take_more marked c 0 inside);
       is = ap₂ (λ x z. x ++ z) h.is k.is ∙ sym (joined-text h.children k.children);
       shapes = joined-shapes h.children k.children y side own 0 c at h.shapes k.shapes;
-      valid = joined-valid h.children k.children I step bound y now side own 0 c at h.valid k.valid;
+      leaves = h.leaves ++ k.leaves;
+      listed = k.listed ∙ ap (λ (l : List Leaf). l ++ k.leaves) h.listed ∙ append_assoc before h.leaves k.leaves;
+      valid = joined-valid h.children k.children I step bound cost y now side own 0 c h.leaves k.leaves at h.valid k.valid;
     }

@@ -1,5 +1,5 @@
 -- What a text with pair duals establishes about an instance's costs, and that no valid one is refused.
-use Rattle.std.specs.Prelude.{◌≡◌, ◌⊎◌, ℕ, ◌<◌, ◌++◌, ◌∷◌, [], List, length, ℤ, pos, codes, ◌<ℤ◌, Option, Some, IfSome}
+use Rattle.std.specs.Prelude.{◌≡◌, ◌⊎◌, ℕ, ◌<◌, ◌++◌, ◌∷◌, [], List, length, ℤ, pos, codes, ◌<ℤ◌, Option, None, Some, IfSome}
 use Rattle.std.specs.Io.KnownBytes.{Consumes}
 use Rattle.qap_cost.specs.Bijection.{IsPerm}
 use Rattle.qap_cost.specs.Instance.{Problem}
@@ -8,13 +8,17 @@ use Rattle.qap_cost.specs.Range.{IsLimited}
 use Rattle.qap_io.specs.Number.{from_one}
 use Rattle.qap_lines.specs.Bound.{IsBoundFor}
 use Rattle.qap_lines.specs.LineText.{line_text}
+use Rattle.pair_duals.specs.CostStep.{step_of}
 use Rattle.qap_proof.specs.Claim.{IsRoot}
 use Rattle.qap_proof.specs.Text.{root_text, bound_text}
 use Rattle.qap_proof.specs.declared.error.ProofError.{ProofError}
 use Rattle.qap_proof.specs.declared.error.ProofError.TheVariants.{Device, OutOfMemory}
 use Rattle.qap_proof.specs.declared.acceptance.Verdict.{Verdict}
 use Rattle.qap_proof.specs.declared.acceptance.Verdict.TheVariants.{Optimal, Gap, Part}
-use Rattle.proof_tree.specs.Claim.{PairClaim, PairProves, IsPairProofText}
+use Rattle.qap_proof.specs.declared.leaf.Leaf.{Leaf}
+use Rattle.proof_tree.specs.Claim.{PairClaim, PairProves, IsPairProofText, pair_claim}
+use Rattle.proof_tree.specs.Leaves.{HasLeaves}
+use Rattle.proof_tree.specs.Tree.{Tree}
 
 -- the verdict of what a proof states: if its root is empty its cost, if that is its bound, else both; otherwise its bound
 abbrev pub IsPairVerdictOf : PairClaim → Verdict → Type 0
@@ -34,6 +38,21 @@ pub record ReadsVerdict (I : Problem) (old : Option (List ℕ)) (verdict : Verdi
   pub text : List ℕ
   pub whole : IfSome old (λ xs. xs ≡ text)
   pub shows : ShowsPairVerdict I text verdict
+
+-- the text is that of a proof over root x, of cost c and bound g, which it proves, and these are the leaves of its tree with values
+-- below the limit
+pub record ShowsLeaves (I : Problem) (text : List ℕ) (x : Placement) (c g limit : ℤ) (ls : List Leaf) : Type 0 where
+  pub permutation : List ℕ
+  pub tree : Tree
+  pub is_text : IsPairProofText text (pair_claim x c g permutation tree)
+  pub proved : PairProves I (pair_claim x c g permutation tree)
+  pub leaves : HasLeaves I (step_of I) g limit x None tree ls
+
+-- the text, which is all that the reader had if that is known, is such a text
+pub record ReadsLeaves (I : Problem) (old : Option (List ℕ)) (x : Placement) (c g limit : ℤ) (ls : List Leaf) : Type 0 where
+  pub text : List ℕ
+  pub whole : IfSome old (λ xs. xs ≡ text)
+  pub shows : ShowsLeaves I text x c g limit ls
 
 -- memory ran out, or the reader failed
 abbrev pub IsInterruption : ProofError → Type 0

@@ -1,5 +1,6 @@
 -- The parameters by which trees are checked.
 use Rattle.std.specs.Prelude.{◌≡◌, ℕ, ◌^◌, ◌*◌, ◌<◌, ◌≤◌, List, length, ℤ, pos, ◌+ℤ◌, ◌*ℤ◌, ◌<ℤ◌, ◌≤ℤ◌, unsigned_abs}
+use Rattle.std.specs.Int.{int_max}
 use Rattle.qap_cost.specs.Instance.{Problem}
 use Rattle.qap_cost.specs.Matrix.{total}
 use Rattle.qap_cost.specs.Placement.{Placement, IsPlacement, free_facilities, free_locations}
@@ -23,6 +24,12 @@ pub record IsGreatestBelow (step : ℕ) (bound below : ℤ) : Type 0 where
   pub next : bound ≤ℤ (below +ℤ pos step)
   pub small : unsigned_abs below ≤ 10 ^ 30
 
+-- the greatest multiples of the step below the bound, and below the cost, which is no smaller
+pub record IsJudge (step : ℕ) (bound below cost enough : ℤ) : Type 0 where
+  pub low : IsGreatestBelow step bound below
+  pub high : IsGreatestBelow step cost enough
+  pub at_most : bound ≤ℤ cost
+
 -- a split of y on its free one with this index, with the pair duals and the form at y, and the scaled value to be exceeded
 pub record IsParent (I : Problem) (below : ℤ) (y : Placement) (now : Under) (facilities locations : List ℕ) (side : Side) (own : ℕ) (threshold : ℤ) : Type 0 where
   pub placement : IsPlacement y
@@ -37,10 +44,10 @@ pub record IsParent (I : Problem) (below : ℤ) (y : Placement) (now : Under) (f
   pub scaled : threshold ≡ pos now.duals.scale *ℤ below
   pub small : unsigned_abs threshold ≤ 10 ^ 37
 
--- the sum of the value, the row minima and then the column minima is above a threshold
-pub record ClosesByLeasts (R : Form) (threshold : ℤ) : Type 0 where
+-- the value, or if it is greater, its sum with the row minima and then the column minima
+pub record IsValueWithMinima (R : Form) (z : ℤ) : Type 0 where
   pub u : List ℤ
   pub v : List ℤ
   pub rows : AreLeastOfRows (count_of R) R.entries u
   pub columns : AreLeast (count_of R) R.entries u v
-  pub above : threshold <ℤ (R.value +ℤ (total u +ℤ total v))
+  pub is : z ≡ int_max R.value (R.value +ℤ (total u +ℤ total v))

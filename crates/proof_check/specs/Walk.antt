@@ -5,25 +5,29 @@ use Rattle.qap_cost.specs.Instance.{Problem}
 use Rattle.qap_cost.specs.Placement.{Placement}
 use Rattle.qap_proof.specs.Cell.{IsPlaceOf, own_on}
 use Rattle.qap_proof.specs.declared.side.Side.{Side}
+use Rattle.qap_proof.specs.declared.leaf.Leaf.{Leaf}
 use Rattle.proof_tree.specs.Image.{IsImage}
+use Rattle.proof_tree.specs.Leaves.{AllHaveLeaves, HasLeaves, IsLeafBelow}
 use Rattle.proof_tree.specs.Shape.{IsImageOf, HasShape, AllHaveShape}
 use Rattle.proof_tree.specs.Text.{image_text, tree_text, children_text, marks}
 use Rattle.proof_tree.specs.Tree.{PairRows, Image, Tree, leaf, split, Children, child_count}
-use Rattle.proof_tree.specs.Valid.{Under, Valid, AllValid}
+use Rattle.proof_tree.specs.Valid.{Under}
 
 -- whether pair duals are inherited
 abbrev pub is_there : Option Under → Bool
 is_there None = false
 is_there (Some above) = true
 
--- this line and what was read after it are the text of a tree that is valid at y
-pub record WalksTree (I : Problem) (step : ℕ) (bound : ℤ) (y : Placement) (above : Option Under) (line : List ℕ) (old new : Option (List ℕ)) : Type 0 where
+-- this line and what was read after it are the text of a tree that is valid at y, whose leaves below the cost were listed after others
+pub record WalksTree (I : Problem) (step : ℕ) (bound cost : ℤ) (y : Placement) (above : Option Under) (line : List ℕ) (old new : Option (List ℕ)) (before after : List Leaf) : Type 0 where
   pub text : List ℕ
   pub consumed : Consumes old new text
   pub tree : Tree
   pub is : line ++ 10 ∷ text ≡ tree_text tree
   pub shape : HasShape y (is_there above) tree
-  pub valid : Valid I step bound y above tree
+  pub leaves : List Leaf
+  pub listed : after ≡ before ++ leaves
+  pub valid : HasLeaves I step bound cost y above tree leaves
 
 -- the root of a tree has its own pair duals
 abbrev pub own_of : Tree → Option PairRows
@@ -31,12 +35,12 @@ own_of (leaf d) = d.own
 own_of (split d _ _ _) = d.own
 
 -- likewise under inherited pair duals, without its own
-pub record WalksLined (I : Problem) (step : ℕ) (bound : ℤ) (y : Placement) (now : Under) (line : List ℕ) (old new : Option (List ℕ)) : Type 0 where
-  pub walked : WalksTree I step bound y (Some now) line old new
+pub record WalksLined (I : Problem) (step : ℕ) (bound cost : ℤ) (y : Placement) (now : Under) (line : List ℕ) (old new : Option (List ℕ)) (before after : List Leaf) : Type 0 where
+  pub walked : WalksTree I step bound cost y (Some now) line old new before after
   pub bare : own_of walked.tree ≡ None
 
--- what was read is the text of the first children of a split of y, this many, which have these marks
-pub record WalksChildren (I : Problem) (step : ℕ) (bound : ℤ) (y : Placement) (now : Under) (side : Side) (own count : ℕ) (marked : List ℕ) (old new : Option (List ℕ)) : Type 0 where
+-- what was read is the text of the first children of a split of y, this many, which have these marks, and their leaves were listed
+pub record WalksChildren (I : Problem) (step : ℕ) (bound cost : ℤ) (y : Placement) (now : Under) (side : Side) (own count : ℕ) (marked : List ℕ) (old new : Option (List ℕ)) (before after : List Leaf) : Type 0 where
   pub text : List ℕ
   pub consumed : Consumes old new text
   pub children : Children
@@ -44,16 +48,18 @@ pub record WalksChildren (I : Problem) (step : ℕ) (bound : ℤ) (y : Placement
   pub marks_are : marks children ≡ take count marked
   pub is : text ≡ children_text children
   pub shapes : AllHaveShape y side own 0 children
-  pub valid : AllValid I step bound y now side own 0 children
+  pub leaves : List Leaf
+  pub listed : after ≡ before ++ leaves
+  pub valid : AllHaveLeaves I step bound cost y now side own 0 children leaves
 
 -- what was read is the text of all children, which have these marks, of a split of y on this facility or location
-pub record WalksSplit (I : Problem) (step : ℕ) (bound : ℤ) (y : Placement) (now : Under) (side : Side) (number : ℕ) (marked : List ℕ) (old new : Option (List ℕ)) : Type 0 where
+pub record WalksSplit (I : Problem) (step : ℕ) (bound cost : ℤ) (y : Placement) (now : Under) (side : Side) (number : ℕ) (marked : List ℕ) (old new : Option (List ℕ)) (before after : List Leaf) : Type 0 where
   pub own : ℕ
   pub place : IsPlaceOf (own_on side y) number own
-  pub walked : WalksChildren I step bound y now side own (length marked) marked old new
+  pub walked : WalksChildren I step bound cost y now side own (length marked) marked old new before after
 
 -- what was read is the text of one child, of this number and with this mark
-pub record WalksChild (I : Problem) (step : ℕ) (bound : ℤ) (y : Placement) (now : Under) (side : Side) (own c mark : ℕ) (old new : Option (List ℕ)) : Type 0 where
+pub record WalksChild (I : Problem) (step : ℕ) (bound cost : ℤ) (y : Placement) (now : Under) (side : Side) (own c mark : ℕ) (old new : Option (List ℕ)) (before after : List Leaf) : Type 0 where
   pub text : List ℕ
   pub consumed : Consumes old new text
   pub children : Children
@@ -61,7 +67,15 @@ pub record WalksChild (I : Problem) (step : ℕ) (bound : ℤ) (y : Placement) (
   pub marks_are : marks children ≡ mark ∷ []
   pub is : text ≡ children_text children
   pub shapes : AllHaveShape y side own c children
-  pub valid : AllValid I step bound y now side own c children
+  pub leaves : List Leaf
+  pub listed : after ≡ before ++ leaves
+  pub valid : AllHaveLeaves I step bound cost y now side own c children leaves
+
+-- a node reaches the bound, and if it does not reach the cost, it was listed as a leaf after others
+pub record PushesLeaf (Reaches : ℤ → Type 0) (bound cost : ℤ) (y : Placement) (before after : List Leaf) : Type 0 where
+  pub leaves : List Leaf
+  pub listed : after ≡ before ++ leaves
+  pub below : IsLeafBelow Reaches bound cost y leaves
 
 -- the line is that of a symmetric image of an earlier child, which child number c is
 pub record SaysImage (I : Problem) (y : Placement) (side : Side) (own c : ℕ) (line : List ℕ) : Type 0 where

@@ -1,22 +1,33 @@
 //! Checks texts of proofs with pair duals.
 
-ghost use Rattle.std.specs.Prelude.{◌≡◌, ◌^◌, ◌<◌, ◌≤◌, ℕ, List, length, codes, IfErr, IfOk, MatchResult, OnErr, OnOk};
+ghost use Rattle.std.specs.Prelude.{◌≡◌, ◌<◌, ◌≤ℤ◌, if◌then◌else◌, ℕ, List, length, codes, IfErr, IfOk, MatchResult, OnErr, OnOk};
 ghost use Rattle.qap_cost.specs.Objective.{cost_of};
 ghost use Rattle.qap_cost.specs.Range.{IsLimited};
 ghost use Rattle.qap_lines.specs.Bound.{IsBoundFor};
 ghost use Rattle.pair_duals.specs.CostStep.{step_of};
 ghost use Rattle.proof_tree.specs.Claim.{pair_claim};
 ghost use Rattle.proof_tree.specs.Tree.{Tree};
-ghost use Rattle.proof_check.specs.Acceptance.{IsPairVerdictOf, ReadsVerdict, RefusesNoProof};
+ghost use Rattle.proof_check.specs.Acceptance.{IsPairVerdictOf, ReadsLeaves, ReadsVerdict, RefusesNoProof};
 ghost use Rattle.proof_check.specs.Judge.{IsGreatestBelow};
 
 use crate::cursor::{Cursor, advance, end};
 use crate::head::{Head, read_head};
-use crate::walking::{Judge, walk_root};
+use crate::leaf::Judge;
+use crate::walking::{Walk, walk_root};
 use qap_cost::{Instance, Partial, Perm, cost};
-use qap_proof::{ProofError, Verdict};
+use qap_proof::{Leaf, ProofError, Verdict};
 use std::alloc::Global;
 use std::io::BufRead;
+
+/// What a proof with pair duals states that was checked, and leaves of its tree, in preorder. No permutation that
+/// completes a leaf's node costs less than its value.
+#[derive(Drop)]
+pub struct Checked {
+    pub root: Partial,
+    pub cost: i128,
+    pub bound: i128,
+    pub leaves: Vec<Leaf>,
+}
 
 /// What a text establishes about an instance's costs, if it is that of a proof with pair duals which proves its bound
 /// for it: all that the reader has. Of the tree it stores only the forms of the nodes above the current line, and the
@@ -33,9 +44,55 @@ pub fn accept<R: BufRead>(
     ensures verdict { IfOk result (ReadsVerdict instance.now (R.remaining reader.old)) }
     ensures refused { IfErr result (RefusesNoProof instance.now (R.remaining reader.old)) }
 {
+    let checked = check(alloc, instance, step, reader, false)?;
+    Ok(verdict_of(&checked.root, checked.bound, checked.cost))
+}
+
+/// Likewise, and what the proof states; no leaves are listed.
+pub fn accept_stated<R: BufRead>(
+    alloc: Global,
+    instance: &Instance,
+    step: u64,
+    reader: &mut R,
+) -> Result<Checked, ProofError>
+    requires step { step ≡ step_of instance.now }
+    ensures stated { IfOk result (λ c. ReadsLeaves instance.now (R.remaining reader.old) c.root c.cost c.bound c.bound c.leaves.items) }
+    ensures refused { IfErr result (RefusesNoProof instance.now (R.remaining reader.old)) }
+{
+    check(alloc, instance, step, reader, false)
+}
+
+/// Likewise, with the leaves of the tree whose values are below the cost.
+pub fn accept_leaves<R: BufRead>(
+    alloc: Global,
+    instance: &Instance,
+    step: u64,
+    reader: &mut R,
+) -> Result<Checked, ProofError>
+    requires step { step ≡ step_of instance.now }
+    ensures leaves { IfOk result (λ c. ReadsLeaves instance.now (R.remaining reader.old) c.root c.cost c.bound c.cost c.leaves.items) }
+    ensures refused { IfErr result (RefusesNoProof instance.now (R.remaining reader.old)) }
+{
+    check(alloc, instance, step, reader, true)
+}
+
+/// Checks a text; without leaves, those with values below the bound are listed, and there are none.
+fn check<R: BufRead>(
+    alloc: Global,
+    instance: &Instance,
+    step: u64,
+    reader: &mut R,
+    with_leaves: bool,
+) -> Result<Checked, ProofError>
+    requires step { step ≡ step_of instance.now }
+    ensures leaves { IfOk result (λ c. ReadsLeaves instance.now (R.remaining reader.old) c.root c.cost c.bound (if with_leaves then c.cost else c.bound) c.leaves.items) }
+    ensures refused { IfErr result (RefusesNoProof instance.now (R.remaining reader.old)) }
+{
     let mut cursor = Cursor::new(alloc);
     let head = read_head(alloc, reader, &mut cursor)?;
     check_permutation(instance, &head.perm, head.cost)?;
+    let limit = limit(head.cost, head.bound, with_leaves);
+    let enough = below(limit, step);
     let below = below(head.bound, step);
     let judge = Judge {
         alloc,
@@ -43,13 +100,34 @@ pub fn accept<R: BufRead>(
         step,
         bound: head.bound,
         below,
+        cost: limit,
+        enough,
     };
-    walk_root(reader, &judge, &head.root, &mut cursor)?;
-    advance(reader, &mut cursor)?;
-    check_end(&cursor.line, cursor.number)?;
-    end(reader, &mut cursor)?;
-    let verdict = verdict_of(&head.root, head.bound, head.cost);
-    Ok(verdict)
+    let mut walk = Walk {
+        cursor,
+        leaves: Vec::new(alloc),
+    };
+    walk_root(reader, &judge, &head.root, &mut walk)?;
+    advance(reader, &mut walk.cursor)?;
+    check_end(&walk.cursor.line, walk.cursor.number)?;
+    end(reader, &mut walk.cursor)?;
+    Ok(Checked {
+        root: head.root,
+        cost: head.cost,
+        bound: head.bound,
+        leaves: walk.leaves,
+    })
+}
+
+/// Below which values leaves are listed: the cost, or if none are requested, the bound.
+fn limit(cost: i128, bound: i128, with_leaves: bool) -> i128
+    requires cost { IsLimited cost }
+    requires bound { IsBoundFor cost bound }
+    ensures value { result ≡ (if with_leaves then cost else bound) }
+    ensures limited { IsLimited result }
+    ensures at_least { bound ≤ℤ result }
+{
+    if with_leaves { cost } else { bound }
 }
 
 /// The greatest multiple of the step that is below the bound.

@@ -7,11 +7,12 @@ mod head;
 mod image;
 mod image_line;
 mod law;
+mod leaf;
 mod listed;
 mod node_line;
 mod numbers;
 mod rows;
 mod walking;
 
-pub use acceptance::accept;
+pub use acceptance::{Checked, accept, accept_leaves, accept_stated};
 pub use law::verdict_law;

@@ -10,34 +10,24 @@ ghost use Rattle.pair_duals.specs.Range.{IsInScale};
 ghost use Rattle.pair_duals.specs.Reduced.{IsFormOf, IsLine, count_of};
 ghost use Rattle.pair_duals.specs.Seats.{child_at};
 ghost use Rattle.qap_proof.specs.Cell.{IsPlaceOf};
-ghost use Rattle.proof_tree.specs.Tree.{column_of, row_of};
+ghost use Rattle.proof_tree.specs.Tree.{child_on, column_of, row_of};
 ghost use Rattle.proof_tree.specs.Valid.{IsClosed, Under, under};
 ghost use Rattle.proof_check.specs.Acceptance.{IsInterruption};
 ghost use Rattle.proof_check.specs.Completeness.{HasChildren, HasLined, HasOwn, HasSplit, HasTree, Leaves, LeavesOthers};
-ghost use Rattle.proof_check.specs.Judge.{ClosesByLeasts, IsGreatestBelow, IsParent, wide};
-ghost use Rattle.proof_check.specs.Walk.{WalksChild, WalksChildren, WalksLined, WalksSplit, WalksTree};
+ghost use Rattle.proof_check.specs.Judge.{IsJudge, IsParent, wide};
+ghost use Rattle.proof_check.specs.Walk.{PushesLeaf, WalksChild, WalksChildren, WalksLined, WalksSplit, WalksTree};
 
 use crate::cursor::{Cursor, advance};
 use crate::image_line::{SplitOf, judge_image};
+use crate::leaf::{Judge, bound_threshold, check_value, threshold, value_with_minima, zeros};
 use crate::listed::listed;
 use crate::node_line::{NodeLine, SplitLine, read_node_line};
 use crate::rows::{read_rows, scale_of};
 use pair_duals::{PairDuals, Reduced};
-use qap_cost::{Instance, Partial};
-use qap_proof::{ProofError, Side};
+use qap_cost::Partial;
+use qap_proof::{Leaf, ProofError, Side};
 use std::alloc::{AllocError, Global};
 use std::io::BufRead;
-
-/// The parameters of a tree's check: the instance, its cost step, the bound, and the greatest multiple of the step that
-/// is below it.
-#[derive(Clone, Copy)]
-pub(crate) struct Judge<'a> {
-    pub(crate) alloc: Global,
-    pub(crate) instance: &'a Instance,
-    pub(crate) step: u64,
-    pub(crate) bound: i128,
-    pub(crate) below: i128,
-}
 
 /// A split whose children are being checked, with the pair duals in force and the form after its line, and the value to
 /// be exceeded; and the number of its line.
@@ -50,23 +40,30 @@ pub(crate) struct Parent<'a> {
     pub(crate) line: u64,
 }
 
+/// How far a check is: the current line, and the leaves below the cost that were found.
+#[derive(Drop)]
+pub(crate) struct Walk {
+    pub(crate) cursor: Cursor,
+    pub(crate) leaves: Vec<Leaf>,
+}
+
 /// Checks the tree of a root, whose first line is current.
 pub(crate) fn walk_root<R: BufRead>(
     reader: &mut R,
     judge: &Judge<'_>,
     node: &Partial,
-    cursor: &mut Cursor,
+    walk: &mut Walk,
 ) -> Result<(), ProofError>
     requires size { judge.now.instance.now.size ≡ node.now.size }
     requires placement { IsPlacement node.now }
-    requires judge { IsGreatestBelow judge.now.step judge.now.bound judge.now.below }
-    ensures passed { Leaves (HasTree judge.now.instance.now judge.now.step judge.now.bound node.now None cursor.old.line.items (R.remaining reader.old)) (R.remaining reader.new) result }
-    ensures walked { OnOk result (WalksTree judge.now.instance.now judge.now.step judge.now.bound node.now None cursor.old.line.items (R.remaining reader.old) (R.remaining reader.new)) }
+    requires judge { IsJudge judge.now.step judge.now.bound judge.now.below judge.now.cost judge.now.enough }
+    ensures passed { Leaves (HasTree judge.now.instance.now judge.now.step judge.now.bound node.now None walk.old.cursor.line.items (R.remaining reader.old)) (R.remaining reader.new) result }
+    ensures walked { OnOk result (WalksTree judge.now.instance.now judge.now.step judge.now.bound judge.now.cost node.now None walk.old.cursor.line.items (R.remaining reader.old) (R.remaining reader.new) walk.old.leaves.items walk.new.leaves.items) }
 {
-    if cursor.line.starts_with(b"p") {
-        walk_own(reader, judge, node, cursor)
+    if walk.cursor.line.starts_with(b"p") {
+        walk_own(reader, judge, node, walk)
     } else {
-        Err(ProofError::BadLine(cursor.number))
+        Err(ProofError::BadLine(walk.cursor.number))
     }
 }
 
@@ -78,22 +75,22 @@ fn walk_below<R: BufRead>(
     node: &Partial,
     duals: &PairDuals<i128>,
     form: &mut Reduced<i128>,
-    cursor: &mut Cursor,
+    walk: &mut Walk,
 ) -> Result<(), ProofError>
     requires size { judge.now.instance.now.size ≡ node.now.size }
     requires placement { IsPlacement node.now }
-    requires judge { IsGreatestBelow judge.now.step judge.now.bound judge.now.below }
+    requires judge { IsJudge judge.now.step judge.now.bound judge.now.below judge.now.cost judge.now.enough }
     requires duals_size { duals.now.size ≡ node.now.size }
     requires in_scale { IsInScale wide judge.now.instance.now duals.now.scale }
     requires form { IsFormOf judge.now.instance.now duals.now node.now form.old }
     requires fresh { form.old.is_lined ≡ false }
-    ensures passed { Leaves (HasTree judge.now.instance.now judge.now.step judge.now.bound node.now (Some (under duals.now form.old)) cursor.old.line.items (R.remaining reader.old)) (R.remaining reader.new) result }
-    ensures walked { OnOk result (WalksTree judge.now.instance.now judge.now.step judge.now.bound node.now (Some (under duals.now form.old)) cursor.old.line.items (R.remaining reader.old) (R.remaining reader.new)) }
+    ensures passed { Leaves (HasTree judge.now.instance.now judge.now.step judge.now.bound node.now (Some (under duals.now form.old)) walk.old.cursor.line.items (R.remaining reader.old)) (R.remaining reader.new) result }
+    ensures walked { OnOk result (WalksTree judge.now.instance.now judge.now.step judge.now.bound judge.now.cost node.now (Some (under duals.now form.old)) walk.old.cursor.line.items (R.remaining reader.old) (R.remaining reader.new) walk.old.leaves.items walk.new.leaves.items) }
 {
-    if cursor.line.starts_with(b"p") {
-        walk_own(reader, judge, node, cursor)
+    if walk.cursor.line.starts_with(b"p") {
+        walk_own(reader, judge, node, walk)
     } else {
-        walk_lined(reader, judge, node, duals, form, cursor)
+        walk_lined(reader, judge, node, duals, form, walk)
     }
 }
 
@@ -103,27 +100,27 @@ fn walk_own<R: BufRead>(
     reader: &mut R,
     judge: &Judge<'_>,
     node: &Partial,
-    cursor: &mut Cursor,
+    walk: &mut Walk,
 ) -> Result<(), ProofError>
     requires size { judge.now.instance.now.size ≡ node.now.size }
     requires placement { IsPlacement node.now }
-    requires judge { IsGreatestBelow judge.now.step judge.now.bound judge.now.below }
-    ensures passed { Leaves (HasOwn judge.now.instance.now judge.now.step judge.now.bound node.now cursor.old.line.items (R.remaining reader.old)) (R.remaining reader.new) result }
-    ensures walked { (above : Option Under) → OnOk result (WalksTree judge.now.instance.now judge.now.step judge.now.bound node.now above cursor.old.line.items (R.remaining reader.old) (R.remaining reader.new)) }
+    requires judge { IsJudge judge.now.step judge.now.bound judge.now.below judge.now.cost judge.now.enough }
+    ensures passed { Leaves (HasOwn judge.now.instance.now judge.now.step judge.now.bound node.now walk.old.cursor.line.items (R.remaining reader.old)) (R.remaining reader.new) result }
+    ensures walked { (above : Option Under) → OnOk result (WalksTree judge.now.instance.now judge.now.step judge.now.bound judge.now.cost node.now above walk.old.cursor.line.items (R.remaining reader.old) (R.remaining reader.new) walk.old.leaves.items walk.new.leaves.items) }
 {
-    let number = cursor.number;
-    let Some(scale) = scale_of(&cursor.line) else {
+    let number = walk.cursor.number;
+    let Some(scale) = scale_of(&walk.cursor.line) else {
         return Err(ProofError::BadLine(number));
     };
     let m = node.size() - node.depth();
-    let rows = read_rows(judge.alloc, reader, cursor, m)?;
+    let rows = read_rows(judge.alloc, reader, &mut walk.cursor, m)?;
     let Some(duals) = listed(judge.alloc, judge.instance, node, scale, &rows)? else {
         return Err(ProofError::NotFeasible(number));
     };
     let mut form = Reduced::empty(judge.alloc);
     form.start(judge.instance, node, &duals)?;
-    advance(reader, cursor)?;
-    walk_lined(reader, judge, node, &duals, &mut form, cursor)
+    advance(reader, &mut walk.cursor)?;
+    walk_lined(reader, judge, node, &duals, &mut form, walk)
 }
 
 /// Checks a tree by the pair duals in force at its root, and the form there.
@@ -134,32 +131,35 @@ fn walk_lined<R: BufRead>(
     node: &Partial,
     duals: &PairDuals<i128>,
     form: &mut Reduced<i128>,
-    cursor: &mut Cursor,
+    walk: &mut Walk,
 ) -> Result<(), ProofError>
     requires size { judge.now.instance.now.size ≡ node.now.size }
     requires placement { IsPlacement node.now }
-    requires judge { IsGreatestBelow judge.now.step judge.now.bound judge.now.below }
+    requires judge { IsJudge judge.now.step judge.now.bound judge.now.below judge.now.cost judge.now.enough }
     requires duals_size { duals.now.size ≡ node.now.size }
     requires in_scale { IsInScale wide judge.now.instance.now duals.now.scale }
     requires form { IsFormOf judge.now.instance.now duals.now node.now form.old }
     requires fresh { form.old.is_lined ≡ false }
-    ensures passed { Leaves (HasLined judge.now.instance.now judge.now.step judge.now.bound node.now (under duals.now form.old) cursor.old.line.items (R.remaining reader.old)) (R.remaining reader.new) result }
-    ensures walked { OnOk result (WalksLined judge.now.instance.now judge.now.step judge.now.bound node.now (under duals.now form.old) cursor.old.line.items (R.remaining reader.old) (R.remaining reader.new)) }
+    ensures passed { Leaves (HasLined judge.now.instance.now judge.now.step judge.now.bound node.now (under duals.now form.old) walk.old.cursor.line.items (R.remaining reader.old)) (R.remaining reader.new) result }
+    ensures walked { OnOk result (WalksLined judge.now.instance.now judge.now.step judge.now.bound judge.now.cost node.now (under duals.now form.old) walk.old.cursor.line.items (R.remaining reader.old) (R.remaining reader.new) walk.old.leaves.items walk.new.leaves.items) }
 {
-    let number = cursor.number;
-    let line = read_node_line(judge.alloc, &cursor.line, number, form.free(), node.size())?;
+    let number = walk.cursor.number;
+    let line = read_node_line(
+        judge.alloc,
+        &walk.cursor.line,
+        number,
+        form.free(),
+        node.size(),
+    )?;
     match line {
         NodeLine::Leaf(u) => {
             draw(judge.alloc, form, &u)?;
-            if form.closes(threshold(judge, duals)) {
-                Ok(())
-            } else {
-                Err(ProofError::BoundTooLow(number))
-            }
+            let fault = ProofError::BoundTooLow(number);
+            check_value(judge, duals, form.value(), node, fault, &mut walk.leaves)
         }
         NodeLine::Split(split) => {
             draw(judge.alloc, form, &split.u)?;
-            walk_split(reader, judge, node, duals, form, &split, cursor)
+            walk_split(reader, judge, node, duals, form, &split, walk)
         }
     }
 }
@@ -173,17 +173,17 @@ fn walk_split<'a, R: BufRead>(
     duals: &'a PairDuals<i128>,
     form: &'a Reduced<i128>,
     split: &SplitLine,
-    cursor: &mut Cursor,
+    walk: &mut Walk,
 ) -> Result<(), ProofError>
     requires size { judge.now.instance.now.size ≡ node.now.size }
     requires placement { IsPlacement node.now }
-    requires judge { IsGreatestBelow judge.now.step judge.now.bound judge.now.below }
+    requires judge { IsJudge judge.now.step judge.now.bound judge.now.below judge.now.cost judge.now.enough }
     requires duals_size { duals.now.size ≡ node.now.size }
     requires in_scale { IsInScale wide judge.now.instance.now duals.now.scale }
     requires form { IsFormOf judge.now.instance.now duals.now node.now form.now }
     requires marks { length split.now.marks.items + length node.now.facilities ≡ node.now.size }
     ensures passed { Leaves (HasSplit judge.now.instance.now judge.now.step judge.now.bound node.now (under duals.now form.now) split.now.side split.now.number split.now.marks.items (R.remaining reader.old)) (R.remaining reader.new) result }
-    ensures walked { OnOk result (WalksSplit judge.now.instance.now judge.now.step judge.now.bound node.now (under duals.now form.now) split.now.side split.now.number split.now.marks.items (R.remaining reader.old) (R.remaining reader.new)) }
+    ensures walked { OnOk result (WalksSplit judge.now.instance.now judge.now.step judge.now.bound judge.now.cost node.now (under duals.now form.now) split.now.side split.now.number split.now.marks.items (R.remaining reader.old) (R.remaining reader.new) walk.old.leaves.items walk.new.leaves.items) }
 {
     let facilities = node.free_facilities()?;
     let locations = node.free_locations()?;
@@ -192,7 +192,7 @@ fn walk_split<'a, R: BufRead>(
         Side::Location => place_of(&locations, split.number),
     };
     let Some(own) = own else {
-        return Err(taken(split.side, cursor.number));
+        return Err(taken(split.side, walk.cursor.number));
     };
     let parent = Parent {
         split: SplitOf {
@@ -204,10 +204,10 @@ fn walk_split<'a, R: BufRead>(
         },
         duals,
         form,
-        threshold: threshold(judge, duals),
-        line: cursor.number,
+        threshold: bound_threshold(judge, duals),
+        line: walk.cursor.number,
     };
-    walk_children(reader, judge, &parent, &split.marks, cursor)
+    walk_children(reader, judge, &parent, &split.marks, walk)
 }
 
 /// Checks the children of a split, which have these marks.
@@ -217,25 +217,17 @@ fn walk_children<R: BufRead>(
     judge: &Judge<'_>,
     parent: &Parent<'_>,
     marks: &[u8],
-    cursor: &mut Cursor,
+    walk: &mut Walk,
 ) -> Result<(), ProofError>
-    requires judge { IsGreatestBelow judge.now.step judge.now.bound judge.now.below }
+    requires judge { IsJudge judge.now.step judge.now.bound judge.now.below judge.now.cost judge.now.enough }
     requires parent { IsParent judge.now.instance.now judge.now.below parent.now.split.node.now (under parent.now.duals.now parent.now.form.now) parent.now.split.facilities.now parent.now.split.locations.now parent.now.split.side parent.now.split.own parent.now.threshold }
     requires marks { length marks.now + length parent.now.split.node.now.facilities ≡ parent.now.split.node.now.size }
     ensures passed { Leaves (HasChildren judge.now.instance.now judge.now.step judge.now.bound parent.now.split.node.now (under parent.now.duals.now parent.now.form.now) parent.now.split.side parent.now.split.own 0 marks.now (R.remaining reader.old)) (R.remaining reader.new) result }
-    ensures walked { OnOk result (WalksChildren judge.now.instance.now judge.now.step judge.now.bound parent.now.split.node.now (under parent.now.duals.now parent.now.form.now) parent.now.split.side parent.now.split.own (length marks.now) marks.now (R.remaining reader.old) (R.remaining reader.new)) }
+    ensures walked { OnOk result (WalksChildren judge.now.instance.now judge.now.step judge.now.bound judge.now.cost parent.now.split.node.now (under parent.now.duals.now parent.now.form.now) parent.now.split.side parent.now.split.own (length marks.now) marks.now (R.remaining reader.old) (R.remaining reader.new) walk.old.leaves.items walk.new.leaves.items) }
 {
     let mut below = Reduced::empty(judge.alloc);
     for child in 0..marks.len() {
-        walk_marked(
-            reader,
-            judge,
-            parent,
-            child,
-            marks[child],
-            &mut below,
-            cursor,
-        )?;
+        walk_marked(reader, judge, parent, child, marks[child], &mut below, walk)?;
     }
     Ok(())
 }
@@ -249,19 +241,19 @@ fn walk_marked<R: BufRead>(
     child: usize,
     mark: u8,
     below: &mut Reduced<i128>,
-    cursor: &mut Cursor,
+    walk: &mut Walk,
 ) -> Result<(), ProofError>
-    requires judge { IsGreatestBelow judge.now.step judge.now.bound judge.now.below }
+    requires judge { IsJudge judge.now.step judge.now.bound judge.now.below judge.now.cost judge.now.enough }
     requires parent { IsParent judge.now.instance.now judge.now.below parent.now.split.node.now (under parent.now.duals.now parent.now.form.now) parent.now.split.facilities.now parent.now.split.locations.now parent.now.split.side parent.now.split.own parent.now.threshold }
     requires child { child + length parent.now.split.node.now.facilities < parent.now.split.node.now.size }
     ensures passed { LeavesOthers judge.now.instance.now judge.now.step judge.now.bound parent.now.split.node.now (under parent.now.duals.now parent.now.form.now) parent.now.split.side parent.now.split.own child mark (R.remaining reader.old) (R.remaining reader.new) result }
-    ensures walked { OnOk result (WalksChild judge.now.instance.now judge.now.step judge.now.bound parent.now.split.node.now (under parent.now.duals.now parent.now.form.now) parent.now.split.side parent.now.split.own child mark (R.remaining reader.old) (R.remaining reader.new)) }
+    ensures walked { OnOk result (WalksChild judge.now.instance.now judge.now.step judge.now.bound judge.now.cost parent.now.split.node.now (under parent.now.duals.now parent.now.form.now) parent.now.split.side parent.now.split.own child mark (R.remaining reader.old) (R.remaining reader.new) walk.old.leaves.items walk.new.leaves.items) }
 {
     if mark == b'.' {
-        check_closed(judge, parent, child, below)?;
+        check_closed(judge, parent, child, below, &mut walk.leaves)?;
         Ok(())
     } else if mark == b'+' {
-        walk_child(reader, judge, parent, child, below, cursor)
+        walk_child(reader, judge, parent, child, below, walk)
     } else {
         Err(ProofError::BadLine(parent.line))
     }
@@ -275,23 +267,23 @@ fn walk_child<R: BufRead>(
     parent: &Parent<'_>,
     child: usize,
     below: &mut Reduced<i128>,
-    cursor: &mut Cursor,
+    walk: &mut Walk,
 ) -> Result<(), ProofError>
-    requires judge { IsGreatestBelow judge.now.step judge.now.bound judge.now.below }
+    requires judge { IsJudge judge.now.step judge.now.bound judge.now.below judge.now.cost judge.now.enough }
     requires parent { IsParent judge.now.instance.now judge.now.below parent.now.split.node.now (under parent.now.duals.now parent.now.form.now) parent.now.split.facilities.now parent.now.split.locations.now parent.now.split.side parent.now.split.own parent.now.threshold }
     requires child { child + length parent.now.split.node.now.facilities < parent.now.split.node.now.size }
     ensures passed { LeavesOthers judge.now.instance.now judge.now.step judge.now.bound parent.now.split.node.now (under parent.now.duals.now parent.now.form.now) parent.now.split.side parent.now.split.own child 43 (R.remaining reader.old) (R.remaining reader.new) result }
-    ensures walked { OnOk result (WalksChild judge.now.instance.now judge.now.step judge.now.bound parent.now.split.node.now (under parent.now.duals.now parent.now.form.now) parent.now.split.side parent.now.split.own child 43 (R.remaining reader.old) (R.remaining reader.new)) }
+    ensures walked { OnOk result (WalksChild judge.now.instance.now judge.now.step judge.now.bound judge.now.cost parent.now.split.node.now (under parent.now.duals.now parent.now.form.now) parent.now.split.side parent.now.split.own child 43 (R.remaining reader.old) (R.remaining reader.new) walk.old.leaves.items walk.new.leaves.items) }
 {
-    advance(reader, cursor)?;
-    if begins_image(&cursor.line) {
+    advance(reader, &mut walk.cursor)?;
+    if begins_image(&walk.cursor.line) {
         return judge_image(
             judge.alloc,
             judge.instance,
             &parent.split,
             child,
-            &cursor.line,
-            cursor.number,
+            &walk.cursor.line,
+            walk.cursor.number,
         );
     }
     let (h, g) = cell(&parent.split, child);
@@ -299,7 +291,7 @@ fn walk_child<R: BufRead>(
     parent
         .form
         .child(judge.instance, parent.duals, h, g, below)?;
-    walk_below(reader, judge, &node, parent.duals, below, cursor)
+    walk_below(reader, judge, &node, parent.duals, below, walk)
 }
 
 /// Whether a line begins as one of a symmetric image; the first line of a tree does not.
@@ -312,44 +304,54 @@ fn begins_image(line: &[u8]) -> bool
     }
 }
 
-/// Makes sure that a child reaches the bound without a text.
+/// Makes sure that a child reaches the bound without a text, and lists it if it does not reach the cost.
 fn check_closed(
     judge: &Judge<'_>,
     parent: &Parent<'_>,
     child: usize,
     below: &mut Reduced<i128>,
+    leaves: &mut Vec<Leaf>,
 ) -> Result<(), ProofError>
-    requires judge { IsGreatestBelow judge.now.step judge.now.bound judge.now.below }
+    requires judge { IsJudge judge.now.step judge.now.bound judge.now.below judge.now.cost judge.now.enough }
     requires parent { IsParent judge.now.instance.now judge.now.below parent.now.split.node.now (under parent.now.duals.now parent.now.form.now) parent.now.split.facilities.now parent.now.split.locations.now parent.now.split.side parent.now.split.own parent.now.threshold }
     requires child { child + length parent.now.split.node.now.facilities < parent.now.split.node.now.size }
     ensures refused { IfErr result (λ e. IsClosed judge.now.instance.now judge.now.step judge.now.bound (under parent.now.duals.now parent.now.form.now) (row_of parent.now.split.side parent.now.split.own child) (column_of parent.now.split.side parent.now.split.own child) → IsInterruption e) }
-    ensures closed { OnOk result (IsClosed judge.now.instance.now judge.now.step judge.now.bound (under parent.now.duals.now parent.now.form.now) (row_of parent.now.split.side parent.now.split.own child) (column_of parent.now.split.side parent.now.split.own child)) }
+    ensures closed { OnOk result (PushesLeaf (λ g. IsClosed judge.now.instance.now judge.now.step g (under parent.now.duals.now parent.now.form.now) (row_of parent.now.split.side parent.now.split.own child) (column_of parent.now.split.side parent.now.split.own child)) judge.now.bound judge.now.cost (child_on parent.now.split.side parent.now.split.node.now parent.now.split.own child) leaves.old.items leaves.new.items) }
 {
     let (h, g) = cell(&parent.split, child);
-    if parent.form.prunes(h, g, parent.threshold) {
+    check_cell(judge, parent, h, g, below, leaves)
+}
+
+/// The same for the child that puts row `h` at column `g`.
+fn check_cell(
+    judge: &Judge<'_>,
+    parent: &Parent<'_>,
+    h: usize,
+    g: usize,
+    below: &mut Reduced<i128>,
+    leaves: &mut Vec<Leaf>,
+) -> Result<(), ProofError>
+    requires judge { IsJudge judge.now.step judge.now.bound judge.now.below judge.now.cost judge.now.enough }
+    requires parent { IsParent judge.now.instance.now judge.now.below parent.now.split.node.now (under parent.now.duals.now parent.now.form.now) parent.now.split.facilities.now parent.now.split.locations.now parent.now.split.side parent.now.split.own parent.now.threshold }
+    requires row { h < count_of parent.now.form.now }
+    requires column { g < count_of parent.now.form.now }
+    ensures refused { IfErr result (λ e. IsClosed judge.now.instance.now judge.now.step judge.now.bound (under parent.now.duals.now parent.now.form.now) h g → IsInterruption e) }
+    ensures closed { OnOk result (PushesLeaf (λ b. IsClosed judge.now.instance.now judge.now.step b (under parent.now.duals.now parent.now.form.now) h g) judge.now.bound judge.now.cost (child_at parent.now.split.node.now h g) leaves.old.items leaves.new.items) }
+{
+    let enough = threshold(judge.enough, parent.duals);
+    if parent.form.prunes(h, g, enough) {
         return Ok(());
     }
     parent
         .form
         .child(judge.instance, parent.duals, h, g, below)?;
-    if closes_trivially(judge.alloc, below, parent.threshold)? {
-        Ok(())
-    } else {
-        Err(ProofError::CutTooLow(parent.line))
+    let value = value_with_minima(judge.alloc, below)?;
+    if value > enough {
+        return Ok(());
     }
-}
-
-/// Whether the least numbers of the rows, and then of the columns, close a node.
-fn closes_trivially(
-    alloc: Global,
-    form: &Reduced<i128>,
-    threshold: i128,
-) -> Result<bool, AllocError>
-    ensures { IfOk result (λ b. IsTrue b ↔ ClosesByLeasts form.now threshold) }
-{
-    let mut u = zeros(alloc, form.free())?;
-    let mut v = zeros(alloc, form.free())?;
-    Ok(form.closes_trivially(threshold, &mut u, &mut v))
+    let node = child_node(&parent.split, h, g)?;
+    let fault = ProofError::CutTooLow(parent.line);
+    check_value(judge, parent.duals, value, &node, fault, leaves)
 }
 
 /// Draws a line.
@@ -363,24 +365,6 @@ fn draw(alloc: Global, form: &mut Reduced<i128>, u: &[i128]) -> Result<(), Alloc
     let mut v = zeros(alloc, form.free())?;
     form.line(u, &mut v);
     Ok(())
-}
-
-fn zeros(alloc: Global, count: usize) -> Result<Vec<i128>, AllocError>
-    ensures { IfOk result (λ v. length v.items ≡ count) }
-{
-    let mut list = Vec::new(alloc);
-    list.resize(count, 0)?;
-    Ok(list)
-}
-
-/// The value to be exceeded under pair duals.
-fn threshold(judge: &Judge<'_>, duals: &PairDuals<i128>) -> i128
-    requires { unsigned_abs judge.now.below ≤ 10 ^ 30 }
-    ensures value { result ≡ pos duals.now.scale *ℤ judge.now.below }
-    ensures small { unsigned_abs result ≤ 10 ^ 37 }
-    ensures duals { AreDuals wide duals.now }
-{
-    i128::from(duals.scale()) * judge.below
 }
 
 /// The place of a number in a list.

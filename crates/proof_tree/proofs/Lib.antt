@@ -1,4 +1,5 @@
 pub mod Images
+pub mod Leaves
 pub mod Multiples
 pub mod Reaching
 pub mod Splits

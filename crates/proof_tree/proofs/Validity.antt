@@ -39,11 +39,11 @@ good_begin (Some rows) None I y D R is same good h = record { fit = h.1; form = 
 good_begin (Some rows) (Some above) I y D R is same good h = record { fit = h.1; form = IsFormOf-start I D y R is same h.2 }
 
 -- after its line a node is good, and no entry is below 0
-record IsDrawn (I : Problem) (y : Placement) (now : Under) : Type 0 where
-  good : IsGood I y now
-  least : IsNonNegative now.form
+pub record IsDrawn (I : Problem) (y : Placement) (now : Under) : Type 0 where
+  pub good : IsGood I y now
+  pub least : IsNonNegative now.form
 
-drawn : (I : Problem) (y : Placement) (above : Option Under) (d : NodeDuals) (now : Under) → IsPlacement y → I.size ≡ y.size → MayBeGood I y above → IsLined I y above d now → IsDrawn I y now
+pub drawn : (I : Problem) (y : Placement) (above : Option Under) (d : NodeDuals) (now : Under) → IsPlacement y → I.size ≡ y.size → MayBeGood I y above → IsLined I y above d now → IsDrawn I y now
 drawn I y above d now is same good h =
     let begun = good_begin d.own above I y now.duals h.start is same good h.begins in
     record {
@@ -52,7 +52,7 @@ drawn I y above d now is same good h =
     }
 
 -- a fact of the children before number c, and of it
-earlier_more : (I : Problem) (bound : ℤ) (y : Placement) (side : Side) (own c : ℕ) → ((j : ℕ) → j < c → Bounded I bound (child_on side y own j)) → Bounded I bound (child_on side y own c) → (j : ℕ) → j < c + 1 → Bounded I bound (child_on side y own j)
+pub earlier_more : (I : Problem) (bound : ℤ) (y : Placement) (side : Side) (own c : ℕ) → ((j : ℕ) → j < c → Bounded I bound (child_on side y own j)) → Bounded I bound (child_on side y own c) → (j : ℕ) → j < c + 1 → Bounded I bound (child_on side y own j)
 earlier_more I bound y side own c earlier here j less =
     elim (cases_lt j c) [
       | inl before ↦ earlier j before

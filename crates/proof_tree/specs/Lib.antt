@@ -1,5 +1,6 @@
 pub mod Claim
 pub mod Image
+pub mod Leaves
 pub mod Shape
 pub mod Text
 pub mod Tree

@@ -1,14 +1,17 @@
 //! Why a valid tree establishes that no completion of its root costs less than the bound.
 
-ghost use Rattle.std.specs.Prelude.{◌≡◌, ◌↔◌, ℕ, ℤ, pos, ◌+ℤ◌, ◌*ℤ◌, ◌<ℤ◌, ◌≤ℤ◌, Option, Some, None};
+ghost use Rattle.std.specs.Prelude.{◌≡◌, ◌↔◌, ℕ, ℤ, pos, ◌+ℤ◌, ◌*ℤ◌, ◌<ℤ◌, ◌≤ℤ◌, List, Option, Some, None};
 ghost use Rattle.qap_cost.specs.Instance.{Problem};
 ghost use Rattle.qap_cost.specs.Objective.{IsLeast, NoneCostsLess};
 ghost use Rattle.qap_cost.specs.Placement.{IsPlacement, Placement, root_of};
 ghost use Rattle.pair_duals.specs.PairDuals.{Duals, Fit};
 ghost use Rattle.pair_duals.specs.Reduced.{Form, IsFormOf};
 ghost use Rattle.qap_proof.specs.Claim.{NoneCompletesForLess};
+ghost use Rattle.qap_proof.specs.Cover.{IsCovering, cover_of};
+ghost use Rattle.qap_proof.specs.declared.leaf.Leaf.{Leaf};
 ghost use Rattle.pair_duals.specs.CostStep.{DividesCosts, step_of};
 ghost use Rattle.proof_tree.specs.Claim.{IsPairProof, PairClaim, PairProves};
+ghost use Rattle.proof_tree.specs.Leaves.{HasLeaves};
 ghost use Rattle.proof_tree.specs.Tree.{Tree};
 ghost use Rattle.proof_tree.specs.Valid.{ReachesBound, Under, Valid, under};
 
@@ -45,4 +48,13 @@ pub fn reaching_law()
 pub fn proof_law()
     ensures bound { (I : Problem) (C : PairClaim) → IsPairProof C → DividesCosts I (step_of I) → PairProves I C → NoneCompletesForLess I C.root C.bound }
     ensures least { (I : Problem) (C : PairClaim) → IsPairProof C → DividesCosts I (step_of I) → PairProves I C → C.root ≡ root_of I.size → C.bound ≡ C.cost → IsLeast I C.cost }
+{}
+
+/// A tree that has leaves below a cost is valid. Each value of a leaf is valid, and up to the cost, the leaves of a proof
+/// that proves its bound cover its root.
+pub fn leaves_law()
+    ensures valid { (I : Problem) (step : ℕ) (bound cost : ℤ) (y : Placement) (above : Option Under) (t : Tree) (ls : List Leaf)
+        → HasLeaves I step bound cost y above t ls → Valid I step bound y above t }
+    ensures covers { (I : Problem) (C : PairClaim) (ls : List Leaf) → IsPairProof C → DividesCosts I (step_of I) → PairProves I C
+        → HasLeaves I (step_of I) C.bound C.cost C.root None C.tree ls → IsCovering (cover_of I C.root C.cost ls) }
 {}

@@ -3,4 +3,4 @@
 
 mod law;
 
-pub use law::{monotone_law, proof_law, reaching_law, tree_law, valid_law};
+pub use law::{leaves_law, monotone_law, proof_law, reaching_law, tree_law, valid_law};

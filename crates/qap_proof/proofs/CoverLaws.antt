@@ -38,7 +38,7 @@ IsCovering-opened I C ls shape proved are =
           let here = leaves_at_least C.tree I C.bound C.root ls shape.root.placement size proved.tree are k d below in
           omega (arith, ints, floor, here);
       shown = leaves_shown C.tree I C.bound C.root ls shape.root.placement size proved.tree are;
-      covers = λ g all. leaves_bound C.tree I g C.bound C.root ls shape.root.placement size proved.tree are all;
+      covers = λ g most all. leaves_bound C.tree I g C.bound C.root ls shape.root.placement size proved.tree are all;
       placement = shape.root.placement;
       same_size = sym size;
     }
@@ -118,7 +118,8 @@ pub IsSoOf-verdict : (c : CoverValue) (v : Verdict) → IsCovering c → IsVerdi
 IsSoOf-verdict c v h on = by v (on.says [] cut)
   where
     none_below : NoneCompletesForLess c.instance c.root on.bound
-    none_below = h.covers on.bound (least_bounded c on.bound h on.least)
+    none_below =
+        h.covers on.bound (All-head (λ z. on.bound ≤ℤ z) c.cost (map (λ (l : Leaf). l.value) c.leaves) on.least.least) (least_bounded c on.bound h on.least)
 
     by : (w : Verdict) → IsVerdictOf (claim_of c.root c.cost on.bound [] cut) w → IsSoOf c.instance c.root w
     by (Optimal z) says = record {
@@ -240,13 +241,20 @@ IsCovering-admitted I x c e old new y d g part min_is raised h =
       shown = λ k l below.
           let within : k < length old = omega (arith, raised.0, below) in
           raised_shown I y g (get_or old k l) (get_or new k l) part.same_size part.bounded (raised.1 k l within) (h.shown k l within);
-      covers = λ b all.
-          h.covers b (λ k l within.
+      covers = λ b most all.
+          h.covers b (at_most b most) (λ k l within.
           let below : k < length new = omega (arith, raised.0, within) in
           subst (λ (w : Placement). NoneCompletesForLess I w b) (raised.1 k l within).0 (all k l below));
       placement = h.placement;
       same_size = h.same_size;
     }
+  where
+    at_most : (b : ℤ) → b ≤ℤ e → b ≤ℤ c
+    at_most b most =
+        elim (IsLesser-min c d).is [
+          | inl less ↦ omega (arith, ints, most, min_is, less.0, less.1)
+          | inr stays ↦ omega (arith, ints, most, min_is, stays.1)
+        ]
 
 -- where what the proof of a part establishes is added, the part is
 pub HasPart-admitted : (I : Problem) (old new : CoverValue) (text : List ℕ) (y : Placement) (d g : ℤ) → I ≡ old.instance → ProvesFor I text y d g → IsAdmitted y d g old new → HasPart text old new

@@ -19,10 +19,12 @@ use Rattle.qap_proof.specs.Tree.{Pair, Split, Node, closed, split, cut, mirrored
 use Rattle.qap_proof.specs.Valid.{Reaches, Valid, AllValid}
 use Rattle.qap_proof.specs.declared.leaf.Leaf.{Leaf}
 
-all_left : (P : Leaf → Type 0) (xs ys : List Leaf) → All P (xs ++ ys) → All P xs
+-- what holds of all leaves of two lists holds of those of the first
+pub all_left : (P : Leaf → Type 0) (xs ys : List Leaf) → All P (xs ++ ys) → All P xs
 all_left P xs ys h k d below = subst P (get_or_append_left xs ys d k below) (h k d (let both = length-append xs ys in omega arith))
 
-all_right : (P : Leaf → Type 0) (xs ys : List Leaf) → All P (xs ++ ys) → All P ys
+-- and of the second
+pub all_right : (P : Leaf → Type 0) (xs ys : List Leaf) → All P (xs ++ ys) → All P ys
 all_right P xs ys h k d below = subst P (get_or-append-add xs ys k d) (h (length xs + k) d (let both = length-append xs ys in omega arith))
 
 one_leaf : (P : Leaf → Type 0) (x : Placement) (z : ℤ) (ls : List Leaf) → ls ≡ leaf x z ∷ [] → All P ls → P (leaf x z)

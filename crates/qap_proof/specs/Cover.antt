@@ -120,14 +120,14 @@ IsBounded I g l = NoneCompletesForLess I l.node g
 abbrev pub IsShown : Problem → Leaf → Type 0
 IsShown I l = IsBounded I l.value l
 
--- some permutation has the cost; each leaf's value is valid; and whatever completes the root completes a leaf, or has a symmetric image
--- with the same cost that does, so that a bound for all leaves is one for the root
+-- some permutation has the cost; each leaf's value is valid; and whatever completes the root costs at least the cost, or completes a
+-- leaf, or has a symmetric image with the same cost that does, so that a bound for all leaves, up to the cost, is one for the root
 pub record IsCovering (c : CoverValue) : Type 0 where
   pub reached : (p : List ℕ) × Permutes c.instance p × (cost_of c.instance p ≡ c.cost)
   pub limited : IsLimited c.cost
   pub least : All (IsAtLeast (neg_ℤ (pos max_value))) c.leaves
   pub shown : All (IsShown c.instance) c.leaves
-  pub covers : (g : ℤ) → All (IsBounded c.instance g) c.leaves → NoneCompletesForLess c.instance c.root g
+  pub covers : (g : ℤ) → g ≤ℤ c.cost → All (IsBounded c.instance g) c.leaves → NoneCompletesForLess c.instance c.root g
   pub placement : IsPlacement c.root
   pub same_size : c.root.size ≡ c.instance.size
 

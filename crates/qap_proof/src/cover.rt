@@ -4,7 +4,7 @@ ghost use Rattle.std.specs.Prelude.{◌≡◌, ◌⊎◌, ◌↔◌, ◌<◌, �
 ghost use Rattle.qap_cost.specs.Placement.{StandsAt};
 ghost use Rattle.qap_proof.specs.Acceptance.{IsLimitedVerdict, IsRefused};
 ghost use Rattle.qap_proof.specs.Claim.{Proves};
-ghost use Rattle.qap_proof.specs.Cover.{AreAmong, AreLeaves, AreRaised, Establishes, HasPart, IsAdmitted, IsLeastOf, IsOpened, IsRaisedValue, IsSoOf, IsVerdictOn};
+ghost use Rattle.qap_proof.specs.Cover.{AreAmong, AreLeaves, AreRaised, Establishes, HasPart, IsAdmitted, IsCovering, IsLeastOf, IsOpened, IsRaisedValue, IsSoOf, IsVerdictOn, cover_of};
 ghost use Rattle.qap_proof.specs.Tree.{whole};
 ghost use Rattle.qap_proof.specs.declared.leaf.Leaf.{Leaf as LeafValue};
 
@@ -62,6 +62,27 @@ impl Cover {
             perm: _,
             tree: _,
         } = proof;
+        Ok(Cover {
+            ranked,
+            root,
+            cost,
+            leaves,
+        })
+    }
+
+    /// The proof of the whole without parts, in whichever format it is: its root, its cost, and leaves of its tree. Leaves
+    /// whose values are at least the cost may be missing.
+    pub fn from_leaves(
+        alloc: Global,
+        instance: &Instance,
+        root: Partial,
+        cost: i128,
+        leaves: Vec<Leaf>,
+    ) -> Result<Cover, AllocError>
+        requires { IsCovering (cover_of instance.now root cost leaves.items) }
+        ensures { IfOk result (λ c. c ≡ cover_of instance.now root cost leaves.items) }
+    {
+        let ranked = RankedInstance::new(alloc, instance)?;
         Ok(Cover {
             ranked,
             root,

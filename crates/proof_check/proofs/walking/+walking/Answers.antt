@@ -14,19 +14,20 @@ use Rattle.proof_tree.proofs.Splits.{IsCellOf, IsCellOf-child, IsPlacement-cell}
 use Rattle.proof_tree.specs.Shape.{ArePairRows}
 use Rattle.proof_tree.specs.Text.{tree_text}
 use Rattle.proof_tree.specs.Tree.{PairRows, row_of, column_of, child_on}
-use Rattle.proof_tree.specs.Valid.{AreListed, under}
+use Rattle.proof_tree.specs.Valid.{AreListed, ReachesBound, under}
 use Rattle.qap_proof.specs.Cell.{IsPlaceOf, own_on}
 use Rattle.qap_proof.specs.declared.side.Side.{Side}
 use Rattle.proof_check.specs.Completeness.{BeginsWithRows, HasChildren, HasTree, Leaves, RefusesImage}
 use Rattle.proof_check.specs.Lines.{IsNodeLine}
 use Rattle.proof_check.specs.Rows.{lists_of, rows_of}
-use Rattle.proof_check.specs.Walk.{SaysImage, WalksChild, WalksTree}
+use Rattle.proof_check.specs.Walk.{PushesLeaf, SaysImage, WalksChild, WalksTree}
 use Rattle.proof_check.specs.declared.node_line.NodeLine.TheVariants.{Leaf, Split as SplitsAt}
 use Rattle.proof_check.proofs.Closing.{cell_inside, cell_listed, far_read, free_is, free_whole, on_ok, reaches}
 use Rattle.proof_check.proofs.Lines.{named-is}
 use Rattle.proof_check.proofs.Passing.{HasLined-first, HasOwn-first, Leaves-weaker, own_fits, own_lined, own_next, own_rows, own_rows_are, own_scale, own_shape}
+use Rattle.proof_check.proofs.Minima.{drawn_value, value_within}
 use Rattle.proof_check.proofs.PassingChildren.{IsPassed-all, IsPassed-more, IsPassed-none, IsPassed-refused, LeavesOthers-image, LeavesOthers-tree, child_begins, closed_child, no_mark}
-use Rattle.proof_check.proofs.PassingLines.{leaf_closes, lined_leaf, lined_refused, lined_split, place_found, split_children}
+use Rattle.proof_check.proofs.PassingLines.{checked, leaf_reaches, lined_leaf, lined_refused, lined_split, place_found, split_children}
 use Rattle.proof_check.proofs.TreeLines.{bare}
 use Rattle.proof_check.proofs.ReadLines.{starts_first, starts_otherwise}
 use Rattle.proof_check.proofs.TreeWalks.{WalksChild-closed, WalksChild-grown, WalksChild-image, WalksChildren-more, WalksChildren-none, WalksLined-leaf, WalksLined-split, WalksTree-own}
@@ -38,7 +39,7 @@ walk_child-returns-then-begins_image-clause-walked g t c =
     let j = c.args.judge.now in
     let p = c.args.parent.now in
     on_ok c.judge_image.result _ _ (λ says.
-    WalksChild-image j.instance.now j.step j.bound p.split.node.now (under p.duals.now p.form.now) p.split.side p.split.own c.args.child c.advance.new.cursor.line.items _ _ c.in_ok-advance.ensures.read
+    WalksChild-image j.instance.now j.step j.bound j.cost p.split.node.now (under p.duals.now p.form.now) p.split.side p.split.own c.args.child c.advance.new.cursor.line.items _ _ _ c.in_ok-advance.ensures.read
     (subst (λ (l : List ℕ). SaysImage j.instance.now p.split.node.now p.split.side p.split.own c.args.child l) c.deref-then-begins_image.ensures.value says)) c.judge_image.ensures.says
 
 pub walk_child-child_node-requires-clause-row : goal.walk_child-child_node-requires-clause-row
@@ -108,18 +109,20 @@ walk_child-returns-clause-walked g t c =
     let line = c.advance.new.cursor.line.items in
     let b = g.R.Read.remaining c.advance.new.reader in
     let d = g.R.Read.remaining c.walk_below.new.reader in
+    let before = c.args.walk.now.leaves.items in
+    let after = c.walk_below.new.walk.leaves.items in
     let node_is : c.in_ok-node.node ≡ child_on p.split.side y p.split.own c.args.child = c.in_ok-node.ensures ∙ ap₂ (child_at y) c.cell-h.ensures.row c.cell-h.ensures.column in
     let child : IsChild I D p.form.now row column R =
     subst (λ (k : ℕ). IsChild I D p.form.now k column R) c.cell-h.ensures.row (subst (λ (k : ℕ). IsChild I D p.form.now c.cell-h.result.0 k R) c.cell-h.ensures.column c.in_ok-child.ensures.child) in
     on_ok c.walk_below.result _ _ (λ w.
-    WalksChild-grown I j.step j.bound y (under D p.form.now) p.split.side p.split.own c.args.child R line _ b d c.in_ok-advance.ensures.read child
-    (subst (λ (x : Placement). WalksTree I j.step j.bound x (Some (under D R)) line b d) node_is w)) c.walk_below.ensures.walked
+    WalksChild-grown I j.step j.bound j.cost y (under D p.form.now) p.split.side p.split.own c.args.child R line _ b d before after c.in_ok-advance.ensures.read child
+    (subst (λ (x : Placement). WalksTree I j.step j.bound j.cost x (Some (under D R)) line b d before after) node_is w)) c.walk_below.ensures.walked
 
 pub walk_children-loop-child-init : goal.walk_children-loop-child-init
 walk_children-loop-child-init g t c =
     let j = c.args.judge.now in
     let p = c.args.parent.now in (
-      WalksChildren-none j.instance.now j.step j.bound p.split.node.now (under p.duals.now p.form.now) p.split.side p.split.own c.args.marks.now _,
+      WalksChildren-none j.instance.now j.step j.bound j.cost p.split.node.now (under p.duals.now p.form.now) p.split.side p.split.own c.args.marks.now _ _,
       IsPassed-none j.instance.now j.step j.bound p.split.node.now (under p.duals.now p.form.now) p.split.side p.split.own c.args.marks.now _,
     )
 
@@ -127,12 +130,18 @@ pub walk_children-loop-child-preserved : goal.walk_children-loop-child-preserved
 walk_children-loop-child-preserved g t c =
     let j = c.args.judge.now in
     let p = c.args.parent.now in (
-      WalksChildren-more j.instance.now j.step j.bound p.split.node.now (under p.duals.now p.form.now) p.split.side p.split.own c.loop-child.child _ c.args.marks.now _ _ _ c.loop-child-test.true refl c.loop-child.invariant.0 c.in_ok-walk_marked.ensures.walked,
+      WalksChildren-more j.instance.now j.step j.bound j.cost p.split.node.now (under p.duals.now p.form.now) p.split.side p.split.own c.loop-child.child _ c.args.marks.now _ _ _ _ _ _ c.loop-child-test.true refl c.loop-child.invariant.0 c.in_ok-walk_marked.ensures.walked,
       IsPassed-more j.instance.now j.step j.bound p.split.node.now (under p.duals.now p.form.now) p.split.side p.split.own c.loop-child.child _ c.args.marks.now _ _ _ c.loop-child-test.true refl c.loop-child.invariant.1 c.in_ok-walk_marked.ensures.passed,
     )
 
-pub walk_lined-returns-then-closes-clause-walked : goal.walk_lined-returns-then-closes-clause-walked
-walk_lined-returns-then-closes-clause-walked g t c =
+pub walk_lined-check_value-requires-clause-small : goal.walk_lined-check_value-requires-clause-small
+walk_lined-check_value-requires-clause-small g t c =
+    let value_is = drawn_value c.draw.new.form c.value.result c.value.ensures.value c.value.ensures.reach in
+    let small = value_within c.draw.new.form c.value.ensures.reach in
+    omega (arith, ints, value_is, small)
+
+pub walk_lined-returns-in_ok-draw-in-Leaf-clause-walked : goal.walk_lined-returns-in_ok-draw-in-Leaf-clause-walked
+walk_lined-returns-in_ok-draw-in-Leaf-clause-walked g t c =
     let j = c.args.judge.now in
     let I = j.instance.now in
     let y = c.args.node.now in
@@ -145,11 +154,12 @@ walk_lined-returns-then-closes-clause-walked g t c =
     let said : IsNodeLine m c.deref.result.now (Leaf u) = subst (IsNodeLine m c.deref.result.now) c.in-Leaf.is c.in_ok-line.ensures.found in
     let line = c.in_ok-draw-in-Leaf.ensures.line in
     let drawn : IsLine old new u.items line.0 = subst (λ (l : List ℤ). IsLine old new l line.0) c.deref-in-Leaf.ensures.value line.1 in
-    let threshold = c.threshold.result in
-    let read = far_read threshold c.threshold.ensures.small in
-    let above = c.closes.ensures.0 c.if-closes.true in
-    let reached = reaches j.step j.bound j.below D.scale threshold new.value c.requires.judge c.threshold.ensures.value (omega (arith, ints, read, above)) in
-    WalksLined-leaf I j.step j.bound y D old new m u.items line.0 c.args.cursor.now.line.items _ same said.0 (sym c.deref.ensures.value ∙ said.1) drawn reached
+    let value_is = drawn_value new c.value.result c.value.ensures.value c.value.ensures.reach in
+    let before = c.args.walk.now.leaves.items in
+    let after = c.check_value.new.leaves.items in
+    on_ok c.check_value.result _ _ (λ pushed.
+    WalksLined-leaf I j.step j.bound j.cost y D old new m u.items line.0 c.args.walk.now.cursor.line.items _ before after same said.0 (sym c.deref.ensures.value ∙ said.1) drawn
+    (subst (λ (z : ℤ). PushesLeaf (λ b. ReachesBound j.step b D.scale z) j.bound j.cost y before after) value_is pushed)) c.check_value.ensures.listed
 
 pub walk_lined-walk_split-requires : goal.walk_lined-walk_split-requires
 walk_lined-walk_split-requires g t c κs within =
@@ -177,8 +187,8 @@ walk_lined-walk_split-requires g t c κs within =
       ),
     )
 
-pub walk_lined-returns-clause-walked : goal.walk_lined-returns-clause-walked
-walk_lined-returns-clause-walked g t c =
+pub walk_lined-returns-in_ok-draw-in-Split-clause-walked : goal.walk_lined-returns-in_ok-draw-in-Split-clause-walked
+walk_lined-returns-in_ok-draw-in-Split-clause-walked g t c =
     let j = c.args.judge.now in
     let I = j.instance.now in
     let y = c.args.node.now in
@@ -192,7 +202,7 @@ walk_lined-returns-clause-walked g t c =
     let line = c.in_ok-draw-in-Split.ensures.line in
     let drawn : IsLine old new s.u.items line.0 = subst (λ (l : List ℤ). IsLine old new l line.0) c.deref-in-Split.ensures.value line.1 in
     on_ok c.walk_split.result _ _ (λ w.
-    WalksLined-split I j.step j.bound y D old new m s.u.items line.0 s.side s.number s.marks.items c.args.cursor.now.line.items _ _ same (free_whole y c.requires.placement) said.u said.marks
+    WalksLined-split I j.step j.bound j.cost y D old new m s.u.items line.0 s.side s.number s.marks.items c.args.walk.now.cursor.line.items _ _ _ _ same (free_whole y c.requires.placement) said.u said.marks
     (ap (λ l. l ++ 10 ∷ []) (sym c.deref.ensures.value) ∙ said.is) drawn w) c.walk_split.ensures.walked
 
 pub walk_marked-returns-in_ok-check_closed-clause-walked : goal.walk_marked-returns-in_ok-check_closed-clause-walked
@@ -200,8 +210,10 @@ walk_marked-returns-in_ok-check_closed-clause-walked g t c =
     let j = c.args.judge.now in
     let p = c.args.parent.now in
     let a = g.R.Read.remaining c.args.reader.now in
-    subst (λ (mark : ℕ). WalksChild j.instance.now j.step j.bound p.split.node.now (under p.duals.now p.form.now) p.split.side p.split.own c.args.child mark a a) (sym c.if-mark-eq46.true)
-    (WalksChild-closed j.instance.now j.step j.bound p.split.node.now (under p.duals.now p.form.now) p.split.side p.split.own c.args.child a c.in_ok-check_closed.ensures.closed)
+    let before = c.args.walk.now.leaves.items in
+    let after = c.check_closed.new.leaves.items in
+    subst (λ (mark : ℕ). WalksChild j.instance.now j.step j.bound j.cost p.split.node.now (under p.duals.now p.form.now) p.split.side p.split.own c.args.child mark a a before after) (sym c.if-mark-eq46.true)
+    (WalksChild-closed j.instance.now j.step j.bound j.cost p.split.node.now (under p.duals.now p.form.now) p.split.side p.split.own c.args.child a before after c.in_ok-check_closed.ensures.closed)
 
 pub walk_own-returns-clause-walked : goal.walk_own-returns-clause-walked
 walk_own-returns-clause-walked g t c = λ above.
@@ -220,30 +232,30 @@ walk_own-returns-clause-walked g t c = λ above.
     let listed : AreListed y P D = subst (λ (l : List (Vec ℤ)). AreListed y (rows_of scale (lists_of l)) D) c.deref-2.ensures.value found.0 in
     let line_is = sym c.deref.ensures.value ∙ named-is (codes "p") c.deref.result.now (pos scale ∷ []) said.2 (AllLimited-one (pos scale) (omega (arith, said.1))) in
     on_ok c.walk_lined.result _ _ (λ w.
-    WalksTree-own I j.step j.bound y above D c.start.new.self P c.args.cursor.now.line.items c.advance.new.cursor.line.items _ _ _ _ line_is shape read.consumed c.in_ok-advance.ensures.read listed found.1 c.in_ok-start.ensures.start w) c.walk_lined.ensures.walked
+    WalksTree-own I j.step j.bound j.cost y above D c.start.new.self P c.args.walk.now.cursor.line.items c.advance.new.cursor.line.items _ _ _ _ _ _ line_is shape read.consumed c.in_ok-advance.ensures.read listed found.1 c.in_ok-start.ensures.start w) c.walk_lined.ensures.walked
 
 -- ---- what is left where the text is that of a valid tree
 
 pub walk_below-returns-then-starts_with-clause-passed : goal.walk_below-returns-then-starts_with-clause-passed
 walk_below-returns-then-starts_with-clause-passed g t c =
     let j = c.args.judge.now in
-    let line = c.args.cursor.now.line.items in
+    let line = c.args.walk.now.cursor.line.items in
     let first = starts_first c.deref.result.now line 112 c.starts_with.result c.deref.ensures.value c.if-starts_with.true c.starts_with.ensures.value in
     Leaves-weaker _ _ _ c.walk_own.result (λ rest h. HasOwn-first j.instance.now j.step j.bound c.args.node.now (Some (under c.args.duals.now c.args.form.now)) line _ rest c.requires.placement first h) c.walk_own.ensures.passed
 
 pub walk_below-returns-else-starts_with-clause-passed : goal.walk_below-returns-else-starts_with-clause-passed
 walk_below-returns-else-starts_with-clause-passed g t c =
     let j = c.args.judge.now in
-    let line = c.args.cursor.now.line.items in
+    let line = c.args.walk.now.cursor.line.items in
     let other = starts_otherwise c.deref.result.now line 112 c.starts_with.result (omega arith) c.deref.ensures.value c.if-starts_with.false c.starts_with.ensures.value in
     Leaves-weaker _ _ _ c.walk_lined.result (λ rest h. HasLined-first j.instance.now j.step j.bound c.args.node.now (under c.args.duals.now c.args.form.now) line _ rest other h) c.walk_lined.ensures.passed
 
 pub walk_own-returns-in_default-clause-passed : goal.walk_own-returns-in_default-clause-passed
 walk_own-returns-in_default-clause-passed g t c = λ rest h.
     let j = c.args.judge.now in
-    let rows = own_shape j.instance.now j.step j.bound c.args.node.now c.args.cursor.now.line.items _ rest h in
+    let rows = own_shape j.instance.now j.step j.bound c.args.node.now c.args.walk.now.cursor.line.items _ rest h in
     absurd (c.in_default.ensures h.rows.scale rows.positive rows.scale
-    (subst (λ (l : List ℕ). IsNamed (codes "p") l (pos h.rows.scale ∷ [])) (sym c.deref.ensures.value) (own_scale j.instance.now j.step j.bound c.args.node.now c.args.cursor.now.line.items _ rest h)))
+    (subst (λ (l : List ℕ). IsNamed (codes "p") l (pos h.rows.scale ∷ [])) (sym c.deref.ensures.value) (own_scale j.instance.now j.step j.bound c.args.node.now c.args.walk.now.cursor.line.items _ rest h)))
 
 pub walk_own-returns-in_err-rows-clause-passed : goal.walk_own-returns-in_err-rows-clause-passed
 walk_own-returns-in_err-rows-clause-passed g t c =
@@ -252,15 +264,15 @@ walk_own-returns-in_err-rows-clause-passed g t c =
     let y = c.args.node.now in
     let m_is : c.size.result - c.depth.result ≡ free_count y = ap₂ (λ a b. a - b) c.size.ensures.value c.depth.ensures.value in
     rw (p.1, p.2) (λ rest h.
-    (c.in_err-rows.ensures {u = tt}).passed h.rows.rows _ (subst (λ (m : ℕ). BeginsWithRows m h.rows.rows (g.R.Read.remaining c.args.reader.now) (tree_text (bare h.has.tree) ++ rest)) (sym m_is) (own_rows j.instance.now j.step j.bound y c.args.cursor.now.line.items _ rest h)))
+    (c.in_err-rows.ensures {u = tt}).passed h.rows.rows _ (subst (λ (m : ℕ). BeginsWithRows m h.rows.rows (g.R.Read.remaining c.args.reader.now) (tree_text (bare h.has.tree) ++ rest)) (sym m_is) (own_rows j.instance.now j.step j.bound y c.args.walk.now.cursor.line.items _ rest h)))
 
 pub walk_own-returns-in_default-2-clause-passed : goal.walk_own-returns-in_default-2-clause-passed
 walk_own-returns-in_default-2-clause-passed g t c = λ rest h.
     let j = c.args.judge.now in
     let y = c.args.node.now in
     let m_is : c.size.result - c.depth.result ≡ free_count y = ap₂ (λ a b. a - b) c.size.ensures.value c.depth.ensures.value in
-    let own = own_rows_are j.instance.now j.step j.bound y c.args.cursor.now.line.items c.deref.result.now _ _ rest c.in-Some.scale (c.size.result - c.depth.result) (lists_of c.in_ok-rows.rows.items) h c.deref.ensures.value c.in-Some.ensures.2 m_is c.in_ok-rows.ensures.passed in
-    let starts = own_fits j.instance.now j.step j.bound y c.args.cursor.now.line.items _ rest h in
+    let own = own_rows_are j.instance.now j.step j.bound y c.args.walk.now.cursor.line.items c.deref.result.now _ _ rest c.in-Some.scale (c.size.result - c.depth.result) (lists_of c.in_ok-rows.rows.items) h c.deref.ensures.value c.in-Some.ensures.2 m_is c.in_ok-rows.ensures.passed in
+    let starts = own_fits j.instance.now j.step j.bound y c.args.walk.now.cursor.line.items _ rest h in
     let same : h.rows ≡ rows_of c.in-Some.scale (lists_of c.deref-2.result.now) = own.0 ∙ ap (λ (l : List (Vec ℤ)). rows_of c.in-Some.scale (lists_of l)) (sym c.deref-2.ensures.value) in
     let none = rw c.in_default-2.is at c.in_ok-duals.ensures.none in
     absurd (none starts.duals (subst (λ (P : PairRows). AreListed y P starts.duals) same starts.listed) starts.fit)
@@ -272,8 +284,8 @@ walk_own-returns-in_err-advance-clause-passed g t c =
     let y = c.args.node.now in
     let m_is : c.size.result - c.depth.result ≡ free_count y = ap₂ (λ a b. a - b) c.size.ensures.value c.depth.ensures.value in
     rw (p.1, p.2) (λ rest h.
-    let own = own_rows_are j.instance.now j.step j.bound y c.args.cursor.now.line.items c.deref.result.now _ _ rest c.in-Some.scale (c.size.result - c.depth.result) (lists_of c.in_ok-rows.rows.items) h c.deref.ensures.value c.in-Some.ensures.2 m_is c.in_ok-rows.ensures.passed in
-    (c.in_err-advance.ensures {u = tt}).refused _ _ (own_next j.instance.now j.step j.bound y c.args.cursor.now.line.items _ _ rest h c.requires.placement own.1))
+    let own = own_rows_are j.instance.now j.step j.bound y c.args.walk.now.cursor.line.items c.deref.result.now _ _ rest c.in-Some.scale (c.size.result - c.depth.result) (lists_of c.in_ok-rows.rows.items) h c.deref.ensures.value c.in-Some.ensures.2 m_is c.in_ok-rows.ensures.passed in
+    (c.in_err-advance.ensures {u = tt}).refused _ _ (own_next j.instance.now j.step j.bound y c.args.walk.now.cursor.line.items _ _ rest h c.requires.placement own.1))
 
 pub walk_own-returns-clause-passed : goal.walk_own-returns-clause-passed
 walk_own-returns-clause-passed g t c =
@@ -284,10 +296,10 @@ walk_own-returns-clause-passed g t c =
     let found = rw c.in-Some-2.is at c.in_ok-duals.ensures.found in
     let read = c.in_ok-advance.ensures in
     Leaves-weaker _ _ _ c.walk_lined.result (λ rest h.
-    let own = own_rows_are j.instance.now j.step j.bound y c.args.cursor.now.line.items c.deref.result.now _ _ rest c.in-Some.scale (c.size.result - c.depth.result) (lists_of c.in_ok-rows.rows.items) h c.deref.ensures.value c.in-Some.ensures.2 m_is c.in_ok-rows.ensures.passed in
+    let own = own_rows_are j.instance.now j.step j.bound y c.args.walk.now.cursor.line.items c.deref.result.now _ _ rest c.in-Some.scale (c.size.result - c.depth.result) (lists_of c.in_ok-rows.rows.items) h c.deref.ensures.value c.in-Some.ensures.2 m_is c.in_ok-rows.ensures.passed in
     let same : h.rows ≡ rows_of c.in-Some.scale (lists_of c.deref-2.result.now) = own.0 ∙ ap (λ (l : List (Vec ℤ)). rows_of c.in-Some.scale (lists_of l)) (sym c.deref-2.ensures.value) in
     let listed : AreListed y h.rows D = subst (λ (P : PairRows). AreListed y P D) (sym same) found.0 in
-    own_lined j.instance.now j.step j.bound y D c.start.new.self c.args.cursor.now.line.items c.advance.new.cursor.line.items _ _ _ rest h c.requires.placement listed c.in_ok-start.ensures.start own.1 read.read read.whole) c.walk_lined.ensures.passed
+    own_lined j.instance.now j.step j.bound y D c.start.new.self c.args.walk.now.cursor.line.items c.advance.new.cursor.line.items _ _ _ rest h c.requires.placement listed c.in_ok-start.ensures.start own.1 read.read read.whole) c.walk_lined.ensures.passed
 
 pub walk_lined-returns-in_err-line-clause-passed : goal.walk_lined-returns-in_err-line-clause-passed
 walk_lined-returns-in_err-line-clause-passed g t c =
@@ -299,33 +311,24 @@ walk_lined-returns-in_err-line-clause-passed g t c =
     let m = c.free.result in
     let same : m ≡ free_count y = c.free.ensures.value ∙ free_is j.instance.now D y old c.requires.placement c.requires.form in
     rw (p.1, p.2) (λ rest h.
-    lined_refused j.instance.now j.step j.bound y (under D old) c.args.cursor.now.line.items c.deref.result.now m c.size.result _ _ rest c.requires.placement c.deref.ensures.value same c.size.ensures.value (c.in_err-line.ensures {u = tt}).refused h)
+    lined_refused j.instance.now j.step j.bound y (under D old) c.args.walk.now.cursor.line.items c.deref.result.now m c.size.result _ _ rest c.requires.placement c.deref.ensures.value same c.size.ensures.value (c.in_err-line.ensures {u = tt}).refused h)
 
-pub walk_lined-returns-then-closes-clause-passed : goal.walk_lined-returns-then-closes-clause-passed
-walk_lined-returns-then-closes-clause-passed g t c = λ rest h.
-    let j = c.args.judge.now in
-    let u = c.in-Leaf.u in
-    let said : IsNodeLine c.free.result c.deref.result.now (Leaf u) = subst (IsNodeLine c.free.result c.deref.result.now) c.in-Leaf.is c.in_ok-line.ensures.found in
-    (lined_leaf j.instance.now j.step j.bound c.args.node.now c.args.duals.now c.args.form.now c.args.cursor.now.line.items u.items _ rest c.requires.placement said.0.limited (sym c.deref.ensures.value ∙ said.1) h).known
-
-pub walk_lined-returns-in-Leaf-clause-passed : goal.walk_lined-returns-in-Leaf-clause-passed
-walk_lined-returns-in-Leaf-clause-passed g t c = λ rest h.
+pub walk_lined-returns-in_ok-draw-in-Leaf-clause-passed : goal.walk_lined-returns-in_ok-draw-in-Leaf-clause-passed
+walk_lined-returns-in_ok-draw-in-Leaf-clause-passed g t c =
     let j = c.args.judge.now in
     let D = c.args.duals.now in
     let old = c.args.form.now in
     let new = c.draw.new.form in
     let u = c.in-Leaf.u in
     let said : IsNodeLine c.free.result c.deref.result.now (Leaf u) = subst (IsNodeLine c.free.result c.deref.result.now) c.in-Leaf.is c.in_ok-line.ensures.found in
-    let leaf = lined_leaf j.instance.now j.step j.bound c.args.node.now D old c.args.cursor.now.line.items u.items _ rest c.requires.placement said.0.limited (sym c.deref.ensures.value ∙ said.1) h in
     let line = c.in_ok-draw-in-Leaf.ensures.line in
     let drawn : IsLine old new u.items line.0 = subst (λ (l : List ℤ). IsLine old new l line.0) c.deref-in-Leaf.ensures.value line.1 in
-    let threshold = c.threshold.result in
-    let above = leaf_closes j.instance.now j.step j.bound j.below c.args.node.now D old new u.items line.0 threshold _ rest c.requires.judge c.threshold.ensures.value drawn leaf in
-    let read = far_read threshold c.threshold.ensures.small in
-    absurd (false≢true (sym c.if-closes.false ∙ c.closes.ensures.1 (omega (arith, ints, read, above))))
+    let value_is = drawn_value new c.value.result c.value.ensures.value c.value.ensures.reach in
+    checked _ _ c.check_value.result (λ rest h. (lined_leaf j.instance.now j.step j.bound c.args.node.now D old c.args.walk.now.cursor.line.items u.items _ rest c.requires.placement said.0.limited (sym c.deref.ensures.value ∙ said.1) h).known)
+    (λ rest h. subst (ReachesBound j.step j.bound D.scale) (sym value_is) (leaf_reaches j.instance.now j.step j.bound c.args.node.now D old new u.items line.0 _ rest drawn (lined_leaf j.instance.now j.step j.bound c.args.node.now D old c.args.walk.now.cursor.line.items u.items _ rest c.requires.placement said.0.limited (sym c.deref.ensures.value ∙ said.1) h))) c.check_value.ensures.refused
 
-pub walk_lined-returns-clause-passed : goal.walk_lined-returns-clause-passed
-walk_lined-returns-clause-passed g t c =
+pub walk_lined-returns-in_ok-draw-in-Split-clause-passed : goal.walk_lined-returns-in_ok-draw-in-Split-clause-passed
+walk_lined-returns-in_ok-draw-in-Split-clause-passed g t c =
     let j = c.args.judge.now in
     let I = j.instance.now in
     let y = c.args.node.now in
@@ -340,7 +343,7 @@ walk_lined-returns-clause-passed g t c =
     let line = c.in_ok-draw-in-Split.ensures.line in
     let drawn : IsLine old new s.u.items line.0 = subst (λ (l : List ℤ). IsLine old new l line.0) c.deref-in-Split.ensures.value line.1 in
     Leaves-weaker _ _ _ c.walk_split.result (λ rest h.
-    lined_split I j.step j.bound y D old new c.args.cursor.now.line.items s.side s.number s.marks.items s.u.items line.0 _ rest c.requires.placement count (omega (arith, said.number)) (said.marks ∙ same) said.u.limited drawn
+    lined_split I j.step j.bound y D old new c.args.walk.now.cursor.line.items s.side s.number s.marks.items s.u.items line.0 _ rest c.requires.placement count (omega (arith, said.number)) (said.marks ∙ same) said.u.limited drawn
     (ap (λ l. l ++ 10 ∷ []) (sym c.deref.ensures.value) ∙ said.is) h) c.walk_split.ensures.passed
 
 pub walk_split-returns-clause-passed : goal.walk_split-returns-clause-passed
