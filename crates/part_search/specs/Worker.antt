@@ -1,5 +1,5 @@
 -- What a worker's transaction holds at each stage of its turn, and the calls that it makes on the space.
-use Rattle.std.specs.Prelude.{◌≡◌, ◌==◌, ℕ, ℤ, true, [], ◌∷◌, List, Some, find, map}
+use Rattle.std.specs.Prelude.{◌≡◌, ◌==◌, ◌≤◌, ℕ, ℤ, Bool, true, [], ◌∷◌, List, Some, find, map}
 use Rattle.qap_cost.specs.Instance.{Problem}
 use Rattle.shared_space.specs.Event.{Event, Reply, begin, call}
 use Rattle.shared_space.specs.Law.{Content, MayCommit}
@@ -86,6 +86,39 @@ IsStage I c (Taken t number) = HasTaken t number
 IsStage I c (Tried t) = HasTried I c t
 IsStage I c (Ready t) = MayCommit (MayReplace I) t
 IsStage I c (GivingUp t) = Unit {0}
+
+-- after how many steps at most a worker at this stage has no transaction, unless memory runs out
+abbrev pub steps_to_idle : Stage → ℕ
+steps_to_idle Idle = 0
+steps_to_idle (Begun t) = 2
+steps_to_idle (Taken t number) = 1
+steps_to_idle (Tried t) = 3
+steps_to_idle (Ready t) = 2
+steps_to_idle (GivingUp t) = 1
+
+-- a worker: its instance, and after how many steps at most it has no transaction, unless memory runs out
+pub record WorkerValue : Type 0 where
+  pub instance : Problem
+  pub to_idle : ℕ
+
+-- it has no transaction
+abbrev pub IsIdle : WorkerValue → Type 0
+IsIdle w = w.to_idle ≡ 0
+
+-- it has no transaction, or its next step ends it without a commit and takes no memory
+abbrev pub IsLeaving : WorkerValue → Type 0
+IsLeaving w = w.to_idle ≤ 1
+
+-- a worker with its share: what the share counts, whether the worker has ended, and after how many steps at most it has no
+-- transaction
+pub record SeatValue : Type 0 where
+  pub share : ℕ
+  pub ended : Bool
+  pub to_idle : ℕ
+
+-- a worker that has ended has no transaction after its next steps
+abbrev pub Leaves : SeatValue → SeatValue → Type 0
+Leaves old new = old.ended ≡ true → new.to_idle ≡ 0
 
 -- the law of the space allows each commit that replaces an open node of the instance, and a transaction's beginning with any lease
 pub record Allows (I : Problem) (allowed : Content → Content → Content → Type 0) (begins : ℕ → Type 0) : Type 0 where

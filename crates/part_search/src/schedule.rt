@@ -116,17 +116,17 @@ impl<L: Law> Model for Post<L> {
 
     ghost Value = { Problem };
 
-    ghost view = { λ p. p.worker };
+    ghost view = { λ p. p.worker.instance };
 
-    ghost invariant = { λ p. Allows p.worker L.allowed L.begins × (L.limit ≡ None) };
+    ghost invariant = { λ p. Allows p.worker.instance L.allowed L.begins × (L.limit ≡ None) };
 }
 
 impl<L: Law> Post<L> {
     /// The place of a worker with its share.
     fn new(worker: Worker, share: Share<L>) -> Post<L>
-        requires allows { Allows worker L.allowed L.begins }
+        requires allows { Allows worker.instance L.allowed L.begins }
         requires limit { L.limit ≡ None }
-        ensures { result ≡ worker }
+        ensures { result ≡ worker.instance }
     {
         Post { worker, share }
     }
@@ -141,7 +141,7 @@ impl<L: Law> Post<L> {
 
     /// Puts a worker in the place of the one who is there, who is lost with its transaction.
     fn put(&mut self, worker: Worker)
-        requires { worker ≡ self.old }
+        requires { worker.instance ≡ self.old }
         ensures { self.new ≡ self.old }
     {
         self.worker = worker;
@@ -155,10 +155,10 @@ fn turn_of<L: Law, S: Stop>(
     room: &mut Alone<L>,
     stop: &S,
 ) -> Result<(), AllocError>
-    requires allows { Allows worker.old L.allowed L.begins }
+    requires allows { Allows worker.old.instance L.allowed L.begins }
     requires limit { L.limit ≡ None }
-    ensures made { Made Did worker.old room.old room.new }
-    ensures instance { worker.new ≡ worker.old }
+    ensures made { Made Did worker.old.instance room.old room.new }
+    ensures instance { worker.new.instance ≡ worker.old.instance }
 {
     step_of(worker, share, room)?;
     worker.try_node(&aid::Alone(stop))
@@ -170,10 +170,10 @@ fn step_of<L: Law>(
     share: &mut Share<L>,
     room: &mut Alone<L>,
 ) -> Result<bool, AllocError>
-    requires allows { Allows worker.old L.allowed L.begins }
+    requires allows { Allows worker.old.instance L.allowed L.begins }
     requires limit { L.limit ≡ None }
-    ensures made { Made Did worker.old room.old room.new }
-    ensures instance { worker.new ≡ worker.old }
+    ensures made { Made Did worker.old.instance room.old room.new }
+    ensures instance { worker.new.instance ≡ worker.old.instance }
 {
     no_limit_law();
     worker.step(room, share)
@@ -182,7 +182,7 @@ fn step_of<L: Law>(
 /// A worker who has done nothing yet.
 fn new_worker<S: Stop>(alloc: Global, task: &Task<'_, S>) -> Result<Worker, AllocError>
     requires start { length task.now.start.now ≡ (arc_value task.now.ground.now).size }
-    ensures { IfOk result (λ (I : Problem). I ≡ arc_value task.now.ground.now) }
+    ensures { IfOk result (λ worker. worker.instance ≡ arc_value task.now.ground.now) }
 {
     Worker::new(alloc, task.ground.clone()?, task.start.copy()?, LEASE_MS)
 }

@@ -1,7 +1,7 @@
 //! A worker with its share, and its run on a shared space.
 
-ghost use Rattle.std.specs.Prelude.{◌≡◌};
-ghost use Rattle.part_search.specs.Worker.{Allows};
+ghost use Rattle.std.specs.Prelude.{◌≡◌, true};
+ghost use Rattle.part_search.specs.Worker.{Allows, IsIdle, IsLeaving, Leaves};
 
 use crate::aid::Aid;
 use crate::board::{Board, Wanted};
@@ -18,7 +18,7 @@ use std::time::{self, Duration, Instant};
 use subtree_search::Stop;
 use tuple_match::Template;
 
-/// How many steps a worker makes at most until it has no transaction.
+/// How many steps a worker makes at most until it has no transaction, if there is memory.
 const STEPS_TO_IDLE: usize = 3;
 
 /// What workers share: the space, what they wait for there, how many wait, whether the search should stop, how many
@@ -93,7 +93,7 @@ enum Ended {
     Memory,
 }
 
-/// A worker with its share of the commits.
+/// A worker with its share of the commits. Once it has ended it has no transaction, or one that its next step ends.
 #[derive(Drop)]
 pub(crate) struct Seat<L: Law> {
     worker: Worker,
@@ -105,21 +105,21 @@ pub(crate) struct Seat<L: Law> {
 }
 
 impl<L: Law> Model for Seat<L> {
-    ghost use Rattle.std.specs.Prelude.{◌≡◌, ℕ};
-    ghost use Rattle.part_search.specs.Worker.{Allows};
+    ghost use Rattle.std.specs.Prelude.{◌≡◌, is_some, true};
+    ghost use Rattle.part_search.specs.Worker.{Allows, IsLeaving, SeatValue};
 
-    ghost Value = { ℕ };
+    ghost Value = { SeatValue };
 
-    ghost view = { λ s. s.share };
+    ghost view = { λ s. record { share = s.share; ended = is_some s.ended; to_idle = s.worker.to_idle } };
 
-    ghost invariant = { λ s. Allows s.worker L.allowed L.begins };
+    ghost invariant = { λ s. Allows s.worker.instance L.allowed L.begins × (is_some s.ended ≡ true → IsLeaving s.worker) };
 }
 
 impl<L: Law> Seat<L> {
     /// A worker that hasn't begun, with its share.
     pub(crate) fn new(worker: Worker, share: Share<L>) -> Seat<L>
-        requires { Allows worker L.allowed L.begins }
-        ensures { result ≡ share }
+        requires { Allows worker.instance L.allowed L.begins }
+        ensures { result.share ≡ share }
     {
         Seat {
             worker,
@@ -131,13 +131,16 @@ impl<L: Law> Seat<L> {
 
     /// Its share.
     pub(crate) fn into_share(self) -> Share<L>
-        ensures { result ≡ self }
+        ensures { result ≡ self.share }
     {
         self.share
     }
 
-    /// Works until the space is closed or there is no memory; a worker that found none gives its node up.
-    pub(crate) fn work<R: Wait + time::Clock>(&mut self, place: &Workplace<'_, R, L>) {
+    /// Works until the space is closed or there is no memory; a worker that found none gives its node up. At the end it has
+    /// no transaction.
+    pub(crate) fn work<R: Wait + time::Clock>(&mut self, place: &Workplace<'_, R, L>)
+        ensures { self.new.to_idle ≡ 0 }
+    {
         for _ in place.rt.forever() {
             if self.ended.is_some() {
                 break;
@@ -147,6 +150,21 @@ impl<L: Law> Seat<L> {
         if !self.worker.is_idle() {
             place.shared.together(place.rt, self);
         }
+    }
+
+    /// Leaves the space, once it has no transaction.
+    pub(crate) fn leave<R: Wait + time::Clock>(&self, place: &Workplace<'_, R, L>)
+        requires { self.now.to_idle ≡ 0 }
+    {
+        place.shared.leave(place.rt);
+    }
+
+    /// Ends, and gives its node up.
+    fn end(&mut self, ended: Ended)
+        ensures { self.new.ended ≡ true }
+    {
+        self.worker.give_up();
+        self.ended = Some(ended);
     }
 
     /// Tries its node outside the space's lock; then it commits what is left and takes another node under one
@@ -164,33 +182,40 @@ impl<L: Law> Seat<L> {
         if self.worker.has_node() {
             place.tried.fetch_add(1, Ordering::SeqCst);
         }
-        if self.worker.try_node(&due).is_err() {
-            self.ended = Some(Ended::Memory);
-        }
+        self.ended = match self.worker.try_node(&due) {
+            Ok(()) => None,
+            Err(AllocError) => Some(Ended::Memory),
+        };
         self.lacks = false;
         let wanted = wanted_at(place);
         let is_advised = wanted.is_some();
         self.worker.want(wanted);
         place.shared.together(place.rt, self);
         if self.ended.is_none() && post(place, self.worker.take_opened()).is_err() {
-            self.ended = Some(Ended::Memory);
+            self.end(Ended::Memory);
         }
-        if self.ended.is_none() && self.lacks && !is_advised {
-            self.ended = wait(place).err();
+        if self.ended.is_none()
+            && self.lacks
+            && !is_advised
+            && let Err(ended) = wait(place)
+        {
+            self.end(ended);
         }
     }
 }
 
 impl<L: Law> Steps<L> for Seat<L> {
+    ghost makes = { λ old new. Leaves old new };
+
     /// A worker that has ended gives up its node; any other continues.
     fn make<M: Room<L>>(&mut self, room: &mut M) {
         if self.ended.is_some() {
-            let _ = finish(room, &mut self.worker, &mut self.share);
+            abandon(room, &mut self.worker, &mut self.share);
             return;
         }
         match go_on(room, &mut self.worker, &mut self.share) {
             Ok(lacks) => self.lacks = lacks,
-            Err(ended) => self.ended = Some(ended),
+            Err(ended) => self.end(ended),
         }
     }
 }
@@ -202,8 +227,8 @@ fn go_on<L: Law, M: Room<L>>(
     worker: &mut Worker,
     share: &mut Share<L>,
 ) -> Result<bool, Ended>
-    requires { Allows worker.old L.allowed L.begins }
-    ensures { worker.new ≡ worker.old }
+    requires { Allows worker.old.instance L.allowed L.begins }
+    ensures { worker.new.instance ≡ worker.old.instance }
 {
     finish(room, worker, share)?;
     if room.closed() {
@@ -224,8 +249,8 @@ fn finish<L: Law, M: Room<L>>(
     worker: &mut Worker,
     share: &mut Share<L>,
 ) -> Result<(), Ended>
-    requires { Allows worker.old L.allowed L.begins }
-    ensures { worker.new ≡ worker.old }
+    requires { Allows worker.old.instance L.allowed L.begins }
+    ensures { worker.new.instance ≡ worker.old.instance }
 {
     for _ in 0..STEPS_TO_IDLE {
         if !worker.is_idle() {
@@ -235,21 +260,30 @@ fn finish<L: Law, M: Room<L>>(
     Ok(())
 }
 
+/// Ends the transaction of a worker that gives its node up, if it has one.
+fn abandon<L: Law, M: Room<L>>(room: &mut M, worker: &mut Worker, share: &mut Share<L>)
+    requires allows { Allows worker.old.instance L.allowed L.begins }
+    requires leaving { IsLeaving worker.old }
+    ensures instance { worker.new.instance ≡ worker.old.instance }
+    ensures idle { IsIdle worker.new }
+{
+    if !worker.is_idle() {
+        let _ = worker.step(room, share);
+    }
+}
+
 /// Makes the next step.
 fn step<L: Law, M: Room<L>>(
     room: &mut M,
     worker: &mut Worker,
     share: &mut Share<L>,
 ) -> Result<(), Ended>
-    requires { Allows worker.old L.allowed L.begins }
-    ensures { worker.new ≡ worker.old }
+    requires { Allows worker.old.instance L.allowed L.begins }
+    ensures { worker.new.instance ≡ worker.old.instance }
 {
     match worker.step(room, share) {
         Ok(_) => Ok(()),
-        Err(AllocError) => {
-            worker.give_up();
-            Err(Ended::Memory)
-        }
+        Err(AllocError) => Err(Ended::Memory),
     }
 }
 

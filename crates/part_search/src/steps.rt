@@ -3,6 +3,7 @@
 ghost use Rattle.std.specs.Prelude.{◌≡◌, ◌≤ℤ◌, [], ℤ, IfErr, IfOk, IfSome, OnOk, true};
 ghost use Rattle.qap_cost.specs.Instance.{Problem};
 ghost use Rattle.shared_space.specs.Law.{MayCommit};
+ghost use Rattle.shared_space.specs.Refusals.{IsAbortError};
 ghost use Rattle.space_txn.specs.Machine.{find_answer, found};
 ghost use Rattle.subtree_search.specs.Best.{Best, IsIncumbent};
 ghost use Rattle.part_search.specs.Replacement.{MayReplace};
@@ -222,10 +223,11 @@ pub(crate) fn commit<L: Law, M: Room<L>>(
     }
 }
 
-/// Ends the transaction without a commit.
+/// Ends the transaction without a commit, which takes no memory.
 pub(crate) fn abort<L: Law, M: Room<L>>(room: &mut M, txn: Txn) -> Outcome
     ensures made { (I : Problem) → Made M.did I room.old room.new }
     ensures stage { (I : Problem) (c : ℤ) → IsStage I c result.stage }
+    ensures ended { result.stage ≡ Stage.Idle }
 {
     match room.abort(txn) {
         Ok(()) => went_on(Stage::Idle),
@@ -245,7 +247,8 @@ fn went_on(stage: Stage) -> Outcome
 
 /// A step that met this refusal: without memory the worker is where it was, and else it begins again.
 fn refused(error: TxnError, stage: Stage) -> Outcome
-    ensures { (I : Problem) (c : ℤ) → IsStage I c stage → IsStage I c result.stage }
+    ensures stage { (I : Problem) (c : ℤ) → IsStage I c stage → IsStage I c result.stage }
+    ensures ended { IsAbortError error → result.stage ≡ Stage.Idle }
 {
     match error {
         TxnError::OutOfMemory => Outcome {

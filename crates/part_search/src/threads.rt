@@ -201,10 +201,11 @@ where
     });
 }
 
-/// Lets the worker of a seat work, which it leaves then.
+/// Lets the worker of a seat work, which then leaves the space.
 fn work<R: Wait + time::Clock, L: Law>(place: &Workplace<'_, R, L>, seat: &Mutex<Seat<L>>) {
-    seat.lock(place.rt).work(place);
-    place.shared.leave(place.rt);
+    let mut seat = seat.lock(place.rt);
+    seat.work(place);
+    seat.leave(place);
 }
 
 /// Advances the moment by the clock until the space is closed, by itself or because the watch requests it.

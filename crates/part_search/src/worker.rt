@@ -1,11 +1,11 @@
 //! A worker of a search on parts.
 
-ghost use Rattle.std.specs.Prelude.{◌≡◌, ℤ, IfOk, length};
+ghost use Rattle.std.specs.Prelude.{◌≡◌, ◌≤◌, ◌↔◌, ℤ, IfOk, IsTrue, OnErr, length};
 ghost use Rattle.std.specs.Arc.{arc_value};
 ghost use Rattle.subtree_search.specs.Best.{IsIncumbent};
 ghost use Rattle.qap_cost.specs.Instance.{Problem};
 ghost use Rattle.part_search.specs.Ground.{IsSplitter};
-ghost use Rattle.part_search.specs.Worker.{Allows, IsStage, IsWorker, Made};
+ghost use Rattle.part_search.specs.Worker.{Allows, IsIdle, IsLeaving, IsStage, IsWorker, Made, steps_to_idle};
 ghost use Rattle.part_search.specs.declared.stage.Stage.{Stage};
 
 use crate::aid::Aid;
@@ -48,7 +48,7 @@ impl Tools {
 }
 
 /// A worker of a search on parts: it takes an open node, splits it and tries its children, and commits those that are left open with
-/// the best permutation that it knows. It is seen as the instance.
+/// the best permutation that it knows. It is seen as the instance, and the number of steps after which it has no transaction.
 #[derive(Drop)]
 pub struct Worker {
     alloc: Global,
@@ -63,13 +63,12 @@ pub struct Worker {
 
 impl Model for Worker {
     ghost use Rattle.std.specs.Arc.{arc_value};
-    ghost use Rattle.qap_cost.specs.Instance.{Problem};
     ghost use Rattle.part_search.specs.Ground.{IsSplitter};
-    ghost use Rattle.part_search.specs.Worker.{IsWorker};
+    ghost use Rattle.part_search.specs.Worker.{IsWorker, WorkerValue, steps_to_idle};
 
-    ghost Value = { Problem };
+    ghost Value = { WorkerValue };
 
-    ghost view = { λ w. arc_value w.ground };
+    ghost view = { λ w. record { instance = arc_value w.ground; to_idle = steps_to_idle w.stage } };
 
     ghost invariant = { λ w. IsSplitter (arc_value w.ground) w.splitter × IsWorker (arc_value w.ground) w.incumbent w.stage };
 }
@@ -83,7 +82,8 @@ impl Worker {
         lease_ms: u64,
     ) -> Result<Worker, AllocError>
         requires { length start ≡ (arc_value ground).size }
-        ensures { IfOk result (λ worker. worker ≡ arc_value ground) }
+        ensures instance { IfOk result (λ worker. worker.instance ≡ arc_value ground) }
+        ensures idle { IfOk result IsIdle }
     {
         let tools = Tools {
             lease_ms,
@@ -106,7 +106,8 @@ impl Worker {
     /// If it took an open node, splits it and tries its children, outside the space; its next step commits what is
     /// left. At an error memory ran out, and the node is given up.
     pub fn try_node<S: Aid>(&mut self, aid: &S) -> Result<(), AllocError>
-        ensures { self.new ≡ self.old }
+        ensures instance { self.new.instance ≡ self.old.instance }
+        ensures given_up { OnErr result (IsLeaving self.new) }
     {
         let stage = replace(&mut self.stage, Stage::Idle);
         let (stage, tried) = tried(
@@ -123,14 +124,16 @@ impl Worker {
     }
 
     /// Makes the next step, one call on the room, and answers whether it met no refusal. At an error there was no memory.
+    /// A step that ends the transaction without a commit takes none.
     pub fn step<L: Law, M: Room<L>>(
         &mut self,
         room: &mut M,
         share: &mut Share<L>,
     ) -> Result<bool, AllocError>
-        requires { Allows self.old L.allowed L.begins }
-        ensures made { Made M.did self.old room.old room.new }
-        ensures instance { self.new ≡ self.old }
+        requires { Allows self.old.instance L.allowed L.begins }
+        ensures made { Made M.did self.old.instance room.old room.new }
+        ensures instance { self.new.instance ≡ self.old.instance }
+        ensures ended { self.old.to_idle ≡ 1 → IsIdle self.new }
     {
         let stage = replace(&mut self.stage, Stage::Idle);
         let outcome = turn(
@@ -164,7 +167,9 @@ impl Worker {
     }
 
     /// Whether it has no transaction.
-    pub(crate) fn is_idle(&self) -> bool {
+    pub(crate) fn is_idle(&self) -> bool
+        ensures { IsTrue result ↔ IsIdle self.now }
+    {
         matches!(self.stage, Stage::Idle)
     }
 
@@ -175,7 +180,8 @@ impl Worker {
 
     /// Gives up its node: if it has a transaction, the next step aborts it.
     pub(crate) fn give_up(&mut self)
-        ensures { self.new ≡ self.old }
+        ensures instance { self.new.instance ≡ self.old.instance }
+        ensures given_up { IsLeaving self.new }
     {
         let stage = replace(&mut self.stage, Stage::Idle);
         self.stage = given_up(stage);
@@ -196,6 +202,7 @@ fn tried<S: Aid>(
     requires worker { IsWorker ground.now incumbent.old stage }
     ensures splitter { IsSplitter ground.now splitter.new }
     ensures worker { IsWorker ground.now incumbent.new result.0 }
+    ensures given_up { OnErr result.1 (steps_to_idle result.0 ≤ 1) }
 {
     match stage {
         Stage::Taken(mut txn, id) => {
@@ -224,6 +231,7 @@ fn turn<L: Law, M: Room<L>>(
     requires worker { IsWorker ground.now incumbent.old stage }
     ensures made { Made M.did ground.now room.old room.new }
     ensures worker { IsWorker ground.now incumbent.new result.stage }
+    ensures ended { steps_to_idle stage ≡ 1 → result.stage ≡ Stage.Idle }
 {
     let instance = ground.instance();
     match stage {
@@ -238,7 +246,8 @@ fn turn<L: Law, M: Room<L>>(
 
 /// The stage of a worker that gives up its node.
 fn given_up(stage: Stage) -> Stage
-    ensures { (I : Problem) (c : ℤ) → IsStage I c result }
+    ensures stage { (I : Problem) (c : ℤ) → IsStage I c result }
+    ensures leaving { steps_to_idle result ≤ 1 }
 {
     match stage {
         Stage::Idle => Stage::Idle,

@@ -6,6 +6,7 @@ ghost use Rattle.space_txn.specs.Finding.{Finds, Shows};
 ghost use Rattle.space_txn.specs.Machine.{abort, commit, end_answer, find_answer, inp_in, rdp_in};
 ghost use Rattle.shared_space.specs.Event.{Event, Reply, advance, answered, ask, begin, begun, call, close, commit_reply, moved, told};
 ghost use Rattle.shared_space.specs.Law.{InLawful, MayCommit};
+ghost use Rattle.shared_space.specs.Refusals.{IsAbortError};
 
 use crate::error::CommitError;
 use crate::law::Law;
@@ -63,7 +64,8 @@ pub trait Room<L: Law> {
     /// Ends a transaction, whose marks are dropped. Refusals: 31, 32; the transaction is returned. Allocates nothing.
     fn abort(&mut self, txn: Txn) -> Result<(), (TxnError, Txn)>
         ensures did { did self.old (call txn abort) (answered (end_answer result) txn) self.new }
-        ensures handed_back { IfErr result (λ back. back.1 ≡ txn) };
+        ensures handed_back { IfErr result (λ back. back.1 ≡ txn) }
+        ensures kind { IfErr result (λ back. IsAbortError back.0) };
 
     /// Advances the moment; an earlier moment changes nothing. Refusal: 33 where the moment is past 2^62. Allocates
     /// nothing.

@@ -321,7 +321,9 @@ impl<L: Law> Shared<L> {
 
     /// Makes steps in a row under one acquisition of the lock, and then wakes those who wait. Each is one call on the
     /// space, as if it had been made separately, except that other threads' calls come before or after all of them.
-    pub fn together<R: Wait, S: Steps<L>>(&self, rt: &R, steps: &mut S) {
+    pub fn together<R: Wait, S: Steps<L>>(&self, rt: &R, steps: &mut S)
+        ensures { S.makes steps.old steps.new }
+    {
         let mut alone = locked(rt, &self.alone);
         steps.make(&mut ***alone);
         let spent = alone.take_spent();
