@@ -37,6 +37,11 @@ impl Wanted {
         }
     }
 
+    /// Its value.
+    pub(crate) fn value(&self) -> i128 {
+        self.value
+    }
+
     /// The template.
     pub(crate) fn into_template(self) -> Template {
         self.template

@@ -16,6 +16,7 @@ mod steps;
 mod threads;
 mod trying;
 mod tuples;
+mod values;
 mod watch;
 mod worker;
 
@@ -25,5 +26,5 @@ pub use ground::Ground;
 pub use law::{best_law, bound_law, opening_law, optimal_law, order_law, replacement_law};
 pub use schedule::{Step, Task, play};
 pub use threads::{Crew, Order, solve};
-pub use watch::Watch;
+pub use watch::{Progress, Watch};
 pub use worker::Worker;

@@ -18,7 +18,7 @@ use tuple_match::Tuple;
 use tuple_space::{Lease, SpaceError};
 
 /// The least that a permutation can cost.
-const LEAST_COST: i128 = -65_536_000_000_000_000_000_000;
+pub(crate) const LEAST_COST: i128 = -65_536_000_000_000_000_000_000;
 
 /// A space that holds the root as an open node, and the permutation to start from as the best one; both forever. Of the root nothing is
 /// proved but that no permutation of any instance costs less than its value.

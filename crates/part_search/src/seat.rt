@@ -6,6 +6,8 @@ ghost use Rattle.part_search.specs.Worker.{Allows, IsIdle, IsLeaving, Leaves};
 use crate::aid::Aid;
 use crate::board::{Board, Wanted};
 use crate::threads::Order;
+use crate::trying::Trial;
+use crate::values::Values;
 use crate::worker::Worker;
 use pair_duals::PairDuals;
 use qap_cost::Partial;
@@ -22,8 +24,8 @@ use tuple_match::Template;
 const STEPS_TO_IDLE: usize = 3;
 
 /// What workers share: the space, what they wait for there, how many wait, whether the search should stop, how many
-/// nodes were taken and tried, when children are left open untried, what they know of open nodes, and which they take
-/// first.
+/// nodes were taken and tried, when children are left open untried, what they know of open nodes, which they take first,
+/// and the values of the nodes that they have yet to decide.
 #[derive(Drop)]
 pub(crate) struct Workplace<'a, R: Wait + time::Clock, L: Law> {
     pub(crate) rt: &'a R,
@@ -36,6 +38,7 @@ pub(crate) struct Workplace<'a, R: Wait + time::Clock, L: Law> {
     pub(crate) turn_ms: u64,
     pub(crate) board: &'a Mutex<Board>,
     pub(crate) order: Order,
+    pub(crate) values: &'a Mutex<Values>,
 }
 
 /// Lets a worker try the children of a node until the search is to stop, another worker has no node, or its time is up.
@@ -186,12 +189,18 @@ impl<L: Law> Seat<L> {
             Ok(()) => None,
             Err(AllocError) => Some(Ended::Memory),
         };
+        if let Some(trial) = self.worker.trial() {
+            place.values.lock(place.rt).announce(trial);
+        }
         self.lacks = false;
         let wanted = wanted_at(place);
         let is_advised = wanted.is_some();
         self.worker.want(wanted);
         place.shared.together(place.rt, self);
-        if self.ended.is_none() && post(place, self.worker.take_opened()).is_err() {
+        let accepted = self.worker.is_accepted().then_some(self.worker.cost());
+        if let Some(trial) = self.worker.take_trial()
+            && post(place, trial, accepted).is_err()
+        {
             self.end(Ended::Memory);
         }
         if self.ended.is_none()
@@ -307,14 +316,21 @@ fn wanted_at<R: Wait + time::Clock, L: Law>(place: &Workplace<'_, R, L>) -> Opti
     }
 }
 
-/// Puts the nodes that were left open on the board, if workers take nodes from there.
+/// Settles the values of a trial, whose commit, if it was accepted, left an incumbent of this cost; then it puts the nodes
+/// that were left open on the board, if workers take nodes from there.
 fn post<R: Wait + time::Clock, L: Law>(
     place: &Workplace<'_, R, L>,
-    opened: Vec<Wanted>,
+    trial: Trial,
+    accepted: Option<i128>,
 ) -> Result<(), AllocError> {
+    let Some(cost) = accepted else {
+        place.values.lock(place.rt).refuse(&trial);
+        return Ok(());
+    };
+    place.values.lock(place.rt).accept(&trial, cost);
     if matches!(place.order, Order::Least) {
         let mut board = place.board.lock(place.rt);
-        for wanted in opened {
+        for wanted in trial.opened {
             board.add(wanted)?;
         }
     }

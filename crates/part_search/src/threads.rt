@@ -12,12 +12,14 @@ ghost use Rattle.part_search.specs.Worker.{Allows};
 
 use crate::answer::{Answer, answer_of};
 use crate::board::Board;
-use crate::opening::opening_space;
+use crate::opening::{LEAST_COST, opening_space};
 use crate::schedule::Task;
 use crate::seat::{Seat, Workplace};
 use crate::tuples::node_template;
-use crate::watch::Watch;
+use crate::values::Values;
+use crate::watch::{Progress, Watch};
 use crate::worker::Worker;
+use qap_cost::cost;
 use shared_space::{Law, Share, Shared};
 use space_txn::TxnSpace;
 use std::alloc::{AllocError, Global};
@@ -60,7 +62,7 @@ pub struct Crew {
 ///
 /// The calling thread keeps the space: it advances the moment by the clock, and closes the space when no node is open,
 /// when every worker has left, and when the task's watch requests it. Only that thread consults the watch, and reports
-/// to it how many nodes were taken and tried. The only error is out of memory.
+/// to it how far the search has come. The only error is out of memory.
 pub fn solve<R, S>(
     rt: &R,
     alloc: Global,
@@ -134,12 +136,15 @@ where
     let count = usize::from(crew.workers);
     let room = Vec::with_capacity(alloc, count)?;
     let nodes = node_template(alloc)?;
+    let cost = cost(task.ground.instance(), task.start);
+    let values = Values::new(alloc, LEAST_COST, cost)?;
     let (shared, shares) = Shared::<L>::within(alloc, blank, space, count, crew.limit)?;
     let seats = seats_for(alloc, task, crew, shares)?;
     let waiting = AtomicU64::new(0);
     let halt = AtomicBool::new(false);
     let tried = AtomicU64::new(0);
     let board = Mutex::new(Board::new(alloc));
+    let values = Mutex::new(values);
     let place = Workplace {
         rt,
         alloc,
@@ -151,6 +156,7 @@ where
         turn_ms: crew.turn_ms,
         board: &board,
         order: crew.order,
+        values: &values,
     };
     work_all(&place, &seats, task.stop);
     let shares = shares_of(room, seats);
@@ -219,10 +225,20 @@ fn keep<R: Wait + time::Clock, L: Law, S: Watch>(place: &Workplace<'_, R, L>, wa
         if place.shared.close(place.rt, place.nodes) {
             return;
         }
-        watch.see(place.tried.load(Ordering::SeqCst));
+        watch.see(&progress_at(place));
         // A moment that is too late changes nothing.
         let _ = place.shared.advance(place.rt, moment(place.rt, since));
         thread::sleep(place.rt, Duration::from_millis(PAUSE_MS));
+    }
+}
+
+/// How far the search has come.
+fn progress_at<R: Wait + time::Clock, L: Law>(place: &Workplace<'_, R, L>) -> Progress {
+    let values = place.values.lock(place.rt);
+    Progress {
+        tried: place.tried.load(Ordering::SeqCst),
+        cost: values.cost(),
+        least: values.least(),
     }
 }
 

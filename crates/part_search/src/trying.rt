@@ -19,6 +19,13 @@ use subtree_search::Incumbent;
 use tuple_match::Tuple;
 use tuple_space::{EntryId, Lease};
 
+/// What the trial of a node found: the node's value, and the nodes that are left open in its place.
+#[derive(Drop)]
+pub(crate) struct Trial {
+    pub(crate) value: i128,
+    pub(crate) opened: Vec<Wanted>,
+}
+
 /// Splits the open node that was taken, tries its children, writes those that remain open, and lists them. `None` if the
 /// entry is not one of an open node, or its lease ends.
 pub(crate) fn try_taken<S: Aid>(
@@ -29,7 +36,7 @@ pub(crate) fn try_taken<S: Aid>(
     txn: &mut Txn,
     id: EntryId,
     aid: &S,
-) -> Result<Option<Vec<Wanted>>, AllocError>
+) -> Result<Option<Trial>, AllocError>
     requires splitter { IsSplitter ground.now splitter.old }
     requires incumbent { IsIncumbent ground.now incumbent.old }
     requires taken { HasTaken txn.old id }
@@ -43,8 +50,11 @@ pub(crate) fn try_taken<S: Aid>(
     };
     let opens = ground.split(alloc, splitter, &at, incumbent, aid)?;
     write_all(alloc, txn, &opens)?;
-    let wanted = wanted_of(alloc, &opens)?;
-    Ok(Some(wanted))
+    let opened = wanted_of(alloc, &opens)?;
+    Ok(Some(Trial {
+        value: at.value,
+        opened,
+    }))
 }
 
 /// The open nodes, by templates.

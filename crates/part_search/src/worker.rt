@@ -13,7 +13,7 @@ use crate::board::Wanted;
 use crate::ground::{Ground, Splitter};
 use crate::stage::{Outcome, Stage};
 use crate::steps::{abort, begin, commit, take_best, take_node};
-use crate::trying::try_taken;
+use crate::trying::{Trial, try_taken};
 use crate::tuples::{best_template, node_template};
 use qap_cost::Perm;
 use shared_space::{Law, Room, Share};
@@ -57,8 +57,10 @@ pub struct Worker {
     splitter: Splitter,
     incumbent: Incumbent,
     stage: Stage,
-    /// The nodes that its last trial left open.
-    opened: Vec<Wanted>,
+    /// What its last trial found.
+    trial: Option<Trial>,
+    /// Whether the commit of that was accepted.
+    is_accepted: bool,
 }
 
 impl Model for Worker {
@@ -99,7 +101,8 @@ impl Worker {
             splitter: Splitter::new(alloc),
             incumbent,
             stage: Stage::Idle,
-            opened: Vec::new(alloc),
+            trial: None,
+            is_accepted: false,
         })
     }
 
@@ -119,7 +122,8 @@ impl Worker {
             aid,
         );
         self.stage = stage;
-        self.opened = tried?;
+        self.trial = tried?;
+        self.is_accepted = false;
         Ok(())
     }
 
@@ -136,6 +140,7 @@ impl Worker {
         ensures ended { self.old.to_idle ≡ 1 → IsIdle self.new }
     {
         let stage = replace(&mut self.stage, Stage::Idle);
+        let is_ready = matches!(stage, Stage::Ready(_));
         let outcome = turn(
             self.alloc,
             &self.ground,
@@ -146,6 +151,7 @@ impl Worker {
             &mut self.incumbent,
         );
         self.stage = outcome.stage;
+        self.is_accepted |= is_ready && matches!(outcome.told, Ok(true));
         outcome.told
     }
 
@@ -159,11 +165,26 @@ impl Worker {
         };
     }
 
-    /// The nodes that its last trial left open, once.
-    pub(crate) fn take_opened(&mut self) -> Vec<Wanted>
+    /// What its last trial found, until that is taken.
+    pub(crate) fn trial(&self) -> Option<&Trial> {
+        self.trial.as_ref()
+    }
+
+    /// The same, once.
+    pub(crate) fn take_trial(&mut self) -> Option<Trial>
         ensures { self.new ≡ self.old }
     {
-        replace(&mut self.opened, Vec::new(self.alloc))
+        self.trial.take()
+    }
+
+    /// Whether the commit of its last trial was accepted.
+    pub(crate) fn is_accepted(&self) -> bool {
+        self.is_accepted
+    }
+
+    /// What the best permutation that it knows costs.
+    pub(crate) fn cost(&self) -> i128 {
+        self.incumbent.cost()
     }
 
     /// Whether it has no transaction.
@@ -188,8 +209,8 @@ impl Worker {
     }
 }
 
-/// The stage of a worker after it has tried the node that it took, and the nodes that are left open. At an error there
-/// was no memory.
+/// The stage of a worker after it has tried the node that it took, and what the trial found. At an error there was no
+/// memory.
 fn tried<S: Aid>(
     alloc: Global,
     ground: &Ground,
@@ -197,7 +218,7 @@ fn tried<S: Aid>(
     incumbent: &mut Incumbent,
     stage: Stage,
     aid: &S,
-) -> (Stage, Result<Vec<Wanted>, AllocError>)
+) -> (Stage, Result<Option<Trial>, AllocError>)
     requires splitter { IsSplitter ground.now splitter.old }
     requires worker { IsWorker ground.now incumbent.old stage }
     ensures splitter { IsSplitter ground.now splitter.new }
@@ -208,12 +229,12 @@ fn tried<S: Aid>(
         Stage::Taken(mut txn, id) => {
             let tried = try_taken(alloc, ground, splitter, incumbent, &mut txn, id, aid);
             match tried {
-                Ok(Some(opened)) => (Stage::Tried(txn), Ok(opened)),
-                Ok(None) => (Stage::GivingUp(txn), Ok(Vec::new(alloc))),
+                Ok(Some(trial)) => (Stage::Tried(txn), Ok(Some(trial))),
+                Ok(None) => (Stage::GivingUp(txn), Ok(None)),
                 Err(error) => (Stage::GivingUp(txn), Err(error)),
             }
         }
-        other => (other, Ok(Vec::new(alloc))),
+        other => (other, Ok(None)),
     }
 }
 

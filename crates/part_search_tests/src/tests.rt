@@ -3,10 +3,13 @@
 ghost use Rattle.std.specs.Prelude.{◌≡◌, true};
 
 use dual_ascent::Effort;
-use part_search::{Answer, Crew, Ground, Order, Step, Task, answer_of, play, solve};
+use part_search::{
+    Answer, Crew, Ground, Order, Progress, Step, Task, Watch, answer_of, play, solve,
+};
 use qap_cost::{Instance, Partial, Perm, cost};
 use small_instances::{Kind, instance, least_of, listing, next};
 use std::alloc::{AllocError, Global};
+use std::cell::Cell;
 use std::process::Abort;
 use std::sync::{Arc, Wait};
 use std::test::Fail;
@@ -174,14 +177,57 @@ fn schedules(rt: HostRuntime) -> Result<(), Fail> {
     Ok(())
 }
 
+/// Watches a search whose answer costs this, and notes whether the reported progress was right: the incumbent costs no less and
+/// never more than before, and the bound is no greater.
+#[derive(Drop)]
+struct Witness {
+    least: i128,
+    seen: Cell<Option<Progress>>,
+    is_right: Cell<bool>,
+}
+
+impl Witness {
+    fn new(least: i128) -> Witness {
+        Witness {
+            least,
+            seen: Cell::new(None),
+            is_right: Cell::new(true),
+        }
+    }
+
+    /// Whether this progress is right after what was seen before.
+    fn is_right_at(&self, progress: &Progress) -> bool {
+        let before = self.seen.get().map_or(i128::MAX, |seen| seen.cost);
+        let bound = progress.least.unwrap_or(progress.cost).min(progress.cost);
+        bound <= self.least && self.least <= progress.cost && progress.cost <= before
+    }
+}
+
+impl Stop for Witness {
+    ghost says = { λ _ _. Unit {0} };
+
+    fn is_requested(&self) -> bool {
+        false
+    }
+}
+
+impl Watch for Witness {
+    fn see(&self, progress: &Progress) {
+        if !self.is_right_at(progress) {
+            self.is_right.set(false);
+        }
+        self.seen.set(Some(*progress));
+    }
+}
+
 /// The answer of a search by two workers whose commits are limited.
 fn limited<R: Abort + Threads + Wait + Clock + Sync>(
     rt: &R,
     alloc: Global,
     (ground, root): (&Arc<Ground>, &Partial),
     start: &Perm,
-    order: Order,
-    limit: Option<u64>,
+    (order, limit): (Order, Option<u64>),
+    witness: &Witness,
 ) -> Result<Answer, AllocError> {
     assert_eq!(rt; ground.instance().size(), root.size());
     assert_eq!(rt; ground.instance().size(), start.len());
@@ -189,7 +235,7 @@ fn limited<R: Abort + Threads + Wait + Clock + Sync>(
         ground,
         root,
         start,
-        stop: &Never,
+        stop: witness,
     };
     let crew = Crew {
         workers: 2,
@@ -213,7 +259,16 @@ fn limits(rt: HostRuntime) -> Result<(), Fail> {
     let ground = Arc::new(alloc, Ground::by_rows(alloc, &instance)?)?;
     for order in [Order::Deepest, Order::Least] {
         for limit in [Some(0), Some(1), None] {
-            let answer = limited(&rt, alloc, (&ground, &root), start, order, limit)?;
+            let witness = Witness::new(least.min(*own));
+            let answer = limited(
+                &rt,
+                alloc,
+                (&ground, &root),
+                start,
+                (order, limit),
+                &witness,
+            )?;
+            assert!(rt; witness.is_right.get());
             let ended = Ended {
                 cost: answer.best.cost(),
                 bound: answer.bound,

@@ -14,7 +14,7 @@ use crate::files::outputs::{Outputs, worse};
 use crate::files::refusal::{Misuse, Refusal, ended};
 use crate::files::sink::Sink;
 use crate::input::file_bytes::text_in;
-use crate::input::instance_file::{inputs_of, is_plain, plan_in};
+use crate::input::instance_file::{cost_decimals, inputs_of, is_plain, plan_in};
 use crate::input::layout_file::layout_in;
 use crate::output::plan_outcome::table_text;
 use crate::output::progress::{Teller, telling_of};
@@ -127,6 +127,7 @@ where
     }
     note_all(alloc, sink, &loaded);
     let problem = &loaded.problem;
+    keeper.use_decimals(cost_decimals(problem));
     let listed = text_in(alloc, texts, request.today)?;
     let today = layout_in(alloc, problem, request.today, &listed)?;
     let [plan, flows, distances, _] = inputs_of(request.file, &loaded);

@@ -15,7 +15,7 @@ use crate::error::PlannerError;
 use crate::files::outputs::Outputs;
 use crate::files::refusal::{Refusal, ended};
 use crate::files::sink::Sink;
-use crate::input::instance_file::{inputs_of, is_plain, plan_in};
+use crate::input::instance_file::{cost_decimals, inputs_of, is_plain, plan_in};
 use crate::input::layout_file::start_in;
 use crate::output::plan_outcome::PlanOutcome;
 use crate::output::progress::{Teller, telling_of};
@@ -67,6 +67,7 @@ where
     ensures { IfOk result (λ status. IsSuccess status → AnswersPlan (D.holds texts.now) S.writes S.prints request.now status sink.old sink.new) }
 {
     let loaded = plan_in(alloc, texts, request.file)?;
+    keeper.use_decimals(cost_decimals(&loaded.problem));
     if !request.quiet {
         note_all(alloc, sink, &loaded);
     }

@@ -16,7 +16,7 @@ use crate::input::file_bytes::bytes_in;
 use crate::input::reading::read_problem;
 use crate::input::restriction::{Restriction, allowed_start, widened};
 use plan_charge::{Restricted, extended_permutation, restricted_law};
-use plan_file::ascending;
+use plan_file::{NamedProblem, ascending};
 use plan_input::{Loaded, Texts, is_plan, load_from};
 use qap_cost::{Instance, Partial, Perm};
 use qap_io::Counted;
@@ -40,6 +40,13 @@ pub fn is_plain(loaded: &Loaded) -> bool
     ensures { IsTrue result → IsPlain loaded.now }
 {
     loaded.charges.count == 0 && loaded.forbidden.count == 0
+}
+
+/// How many decimals costs have in the plan's own units.
+pub(crate) fn cost_decimals(problem: &NamedProblem) -> usize
+    requires { HasSizes problem.now }
+{
+    problem.flow_scale + problem.distance_scale
 }
 
 /// The names of the files that a run on a plan reads.

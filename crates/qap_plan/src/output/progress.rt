@@ -3,6 +3,8 @@
 use crate::output::resident::{resident_bytes, usable_bytes};
 use crate::search::keeper::{Keeper, Progress};
 use crate::search::run_clock::RunClock;
+use plan_answer::gap_text;
+use plan_table::decimal_text;
 use std::alloc::{AllocError, Global};
 use std::cell::Cell;
 use std::fs::{self, Files};
@@ -14,6 +16,9 @@ const PAUSE_MS: u64 = 10_000;
 
 /// After how many milliseconds it is looked again whether the search is to stop.
 const LOOK_MS: u64 = 100;
+
+/// More decimals than a cost has digits.
+const MOST_DECIMALS: usize = 40;
 
 /// How a run reports its progress.
 #[derive(Clone, Copy, Debug, PartialEq, Eq)]
@@ -44,6 +49,8 @@ pub struct Teller<'a, R: Eprint + AllocGlobal + Files, T: time::Clock> {
     rt: &'a R,
     elapsed: &'a RunClock<'a, T>,
     telling: Telling,
+    /// How many decimals costs have.
+    decimals: Cell<usize>,
     /// When the last line was written, in milliseconds since the run began.
     told_ms: Cell<u64>,
     /// The file whose being there stops the search.
@@ -66,6 +73,7 @@ impl<'a, R: Eprint + AllocGlobal + Files, T: time::Clock> Teller<'a, R, T> {
             rt,
             elapsed,
             telling,
+            decimals: Cell::new(0),
             told_ms: Cell::new(0),
             stop_file,
             looked_ms: Cell::new(0),
@@ -109,7 +117,8 @@ impl<R: Eprint + AllocGlobal + Files, T: time::Clock> Keeper for Teller<'_, R, T
             }
             self.told_ms.set(now);
         }
-        let Ok(line) = progress_line(self.rt.alloc(), now, progress) else {
+        let decimals = self.decimals.get();
+        let Ok(line) = progress_line(self.rt.alloc(), now, progress, decimals) else {
             return;
         };
         let _ = if self.telling == Telling::OneLine {
@@ -117,6 +126,10 @@ impl<R: Eprint + AllocGlobal + Files, T: time::Clock> Keeper for Teller<'_, R, T
         } else {
             self.rt.eprintln(&line)
         };
+    }
+
+    fn use_decimals(&self, decimals: usize) {
+        self.decimals.set(decimals);
     }
 
     fn resident_bytes(&self) -> Option<u64> {
@@ -142,19 +155,38 @@ impl<R: Eprint + AllocGlobal + Files, T: time::Clock> Keeper for Teller<'_, R, T
     }
 }
 
-/// How far a search has come after this many milliseconds, in at most 79 columns: the seconds, how many nodes are decided,
-/// how many were in a second, and the best cost.
+/// How far a search has come after this many milliseconds, in at most 79 columns: the seconds, the cost of the incumbent with
+/// this many decimals, how far that may be above the least, how many nodes are decided, and how many were in a second.
 pub fn progress_line(
     alloc: Global,
     milliseconds: u64,
     progress: &Progress,
+    decimals: usize,
 ) -> Result<String, AllocError> {
     let decided = progress.decided;
     let seconds = milliseconds / 1000;
     let rate = u128::from(decided) * 1000 / u128::from(milliseconds.max(1));
-    let mut line = format!(in alloc; "{seconds} s, {decided} nodes, {rate}/s")?;
-    if let Some(cost) = progress.cost {
-        line.push_str(&format!(in alloc; ", best {cost}")?)?;
-    }
+    let cost = cost_phrase(alloc, progress, decimals)?;
+    let line = format!(in alloc; "{seconds} s{cost}, {decided} nodes, {rate}/s")?;
     format!(in alloc; "{line:.79}")
+}
+
+/// The cost of the incumbent, if it is to be reported, and how far it may be above the least, if a bound is known.
+fn cost_phrase(alloc: Global, progress: &Progress, decimals: usize) -> Result<String, AllocError> {
+    let Some(cost) = progress.cost else {
+        return Ok(String::new(alloc));
+    };
+    let number = decimal_text(alloc, cost, decimals.min(MOST_DECIMALS))?;
+    let number = std::str::from_utf8(&number).unwrap_or("");
+    let percent = match progress.bound {
+        Some(bound) => gap_text(alloc, cost, bound)?,
+        None => None,
+    };
+    match percent {
+        Some(percent) => {
+            let percent = std::str::from_utf8(&percent).unwrap_or("");
+            format!(in alloc; ", cost {number}, at most {percent}% above the least")
+        }
+        None => format!(in alloc; ", cost {number}"),
+    }
 }

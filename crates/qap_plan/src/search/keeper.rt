@@ -3,8 +3,10 @@
 /// How far a search has come.
 #[derive(Clone, Copy, Debug, PartialEq, Eq)]
 pub struct Progress {
-    /// What the permutation costs that the search began with, if that is to be reported.
+    /// The cost of the incumbent, if that is to be reported.
     pub cost: Option<i128>,
+    /// What no permutation that the search is among costs less than, if that is known.
+    pub bound: Option<i128>,
     /// How many nodes were decided.
     pub decided: u64,
 }
@@ -22,6 +24,9 @@ pub trait Keeper {
 
     /// Sees how far the search has come.
     fn see(&self, progress: &Progress);
+
+    /// Is to report costs with this many decimals: those of the search are whole numbers.
+    fn use_decimals(&self, decimals: usize);
 
     /// How many bytes of memory the program has now, where that can be found out.
     fn resident_bytes(&self) -> Option<u64>;

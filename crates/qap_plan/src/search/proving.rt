@@ -191,6 +191,7 @@ impl<K: Keeper> Watch for Watcher<'_, '_, K> {
         if looks % LOOKS == 0 && self.within.is_watching() {
             self.within.see(&Progress {
                 cost: None,
+                bound: None,
                 decided: nodes,
             });
         }

@@ -53,6 +53,8 @@ impl<T: time::Clock> Keeper for RunClock<'_, T> {
 
     fn see(&self, _progress: &Progress) {}
 
+    fn use_decimals(&self, _decimals: usize) {}
+
     fn resident_bytes(&self) -> Option<u64> {
         None
     }

@@ -63,17 +63,16 @@ where
     ensures proof { IfOk result (λ x. x.proof ≡ None) }
     ensures pair_proof { IfOk result (λ x. x.pair_proof ≡ None) }
 {
-    let start_cost = cost(instance, start);
     let watcher = Watcher {
         within,
-        cost: start_cost,
         looks: Cell::new(0),
     };
     let easy = searched_briefly(system, alloc, instance, root, start, options, &watcher)?;
     if let Some(found) = easy {
         return Ok(found);
     }
-    let ground = ground_for(alloc, instance, root, options, scale_for(start_cost))?;
+    let scale = scale_for(cost(instance, start));
+    let ground = ground_for(alloc, instance, root, options, scale)?;
     let task = Task {
         ground: &ground,
         root,
@@ -241,8 +240,6 @@ fn with_bound(found: Planned, bound: i128) -> Planned
 #[derive(Drop)]
 struct Watcher<'a, 'k, K: Keeper> {
     within: &'a WithinMemory<'k, K>,
-    /// What the permutation costs that the search begins with.
-    cost: i128,
     /// The number of rounds of the thread that keeps the space so far.
     looks: Cell<u32>,
 }
@@ -256,13 +253,14 @@ impl<K: Keeper> Stop for Watcher<'_, '_, K> {
 }
 
 impl<K: Keeper> Watch for Watcher<'_, '_, K> {
-    fn see(&self, tried: u64) {
+    fn see(&self, progress: &part_search::Progress) {
         let looks = self.looks.get().wrapping_add(1);
         self.looks.set(looks);
         if looks % ROUNDS_PER_LOOK == 0 && self.within.is_watching() {
             self.within.see(&Progress {
-                cost: Some(self.cost),
-                decided: tried,
+                cost: Some(progress.cost),
+                bound: progress.least.map(|least| least.min(progress.cost)),
+                decided: progress.tried,
             });
         }
     }

@@ -1,0 +1,88 @@
+//! The values of the nodes that a search has yet to decide, and the cost of its incumbent: advice, which no proof relies on.
+
+use crate::trying::Trial;
+use std::alloc::{AllocError, Global};
+use std::collections::BTreeMap;
+
+/// How often each value occurs among the nodes that are open or being worked on, and the cost of the incumbent.
+///
+/// The value of a node arrives before the commit that opens the node, and leaves only after one that replaces it was accepted. So the
+/// least is at most that of any node in the space.
+#[derive(Drop)]
+pub(crate) struct Values {
+    counts: BTreeMap<i128, u64>,
+    /// The cost of the incumbent.
+    cost: i128,
+    /// Whether memory sufficed for each value.
+    is_complete: bool,
+}
+
+impl Values {
+    /// That of the root, and the cost of the permutation to start from.
+    pub(crate) fn new(alloc: Global, root: i128, cost: i128) -> Result<Values, AllocError> {
+        let mut counts = BTreeMap::new(alloc);
+        counts.insert(root, 1)?;
+        Ok(Values {
+            counts,
+            cost,
+            is_complete: true,
+        })
+    }
+
+    /// Adds the values of the nodes that a trial left open, before the commit that opens them.
+    pub(crate) fn announce(&mut self, trial: &Trial) {
+        for wanted in &trial.opened {
+            if self.add(wanted.value()).is_err() {
+                self.is_complete = false;
+            }
+        }
+    }
+
+    /// After a commit that was accepted and left an incumbent of this cost, drops the value of the node that it replaced.
+    pub(crate) fn accept(&mut self, trial: &Trial, cost: i128) {
+        self.remove(trial.value);
+        self.cost = self.cost.min(cost);
+    }
+
+    /// After a commit that was refused, drops the values that were announced for it.
+    pub(crate) fn refuse(&mut self, trial: &Trial) {
+        for wanted in &trial.opened {
+            self.remove(wanted.value());
+        }
+    }
+
+    /// How often a value occurs.
+    fn count(&self, value: i128) -> u64 {
+        self.counts.get(&value).copied().unwrap_or(0)
+    }
+
+    fn add(&mut self, value: i128) -> Result<(), AllocError> {
+        let count = self.count(value).saturating_add(1);
+        self.counts.insert(value, count)?;
+        Ok(())
+    }
+
+    fn remove(&mut self, value: i128) {
+        let count = self.count(value).saturating_sub(1);
+        if count == 0 {
+            self.counts.remove(&value);
+        } else {
+            // The value has an entry, so this takes no memory.
+            let _ = self.counts.insert(value, count);
+        }
+    }
+
+    /// The cost of the incumbent.
+    pub(crate) fn cost(&self) -> i128 {
+        self.cost
+    }
+
+    /// The least value, if memory sufficed for each, and a node is open or being worked on.
+    pub(crate) fn least(&self) -> Option<i128> {
+        if !self.is_complete {
+            return None;
+        }
+        let (value, _) = self.counts.first_key_value()?;
+        Some(*value)
+    }
+}
