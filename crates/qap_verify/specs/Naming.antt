@@ -1,13 +1,14 @@
 -- Runs on named files. The possible contents of files are a relation of names and bytes.
 use Rattle.std.specs.Prelude.{◌≡◌, ℕ, ℤ, List, [], ◌∷◌, Option, IfSome}
 use Rattle.qap_io.specs.Counting.{CountedDevice}
-use Rattle.qap_proof.specs.Cover.{CoverValue, IsOpened}
+use Rattle.qap_proof.specs.Cover.{CoverValue}
 use Rattle.qap_proof.specs.declared.acceptance.Verdict.{Verdict}
+use Rattle.proof_versions.specs.Opening.{EitherOpens}
 use Rattle.qap_text.specs.Input.{Input, input_of}
 use Rattle.qap_verify.specs.Answering.{HasRun, HasTold, verdict_status}
 use Rattle.qap_verify.specs.Parts.{HasAdded, HasShown}
 use Rattle.qap_verify.specs.Refusal.{status_of}
-use Rattle.qap_verify.specs.Texts.{ComeTo}
+use Rattle.qap_verify.specs.Texts.{Yields}
 use Rattle.qap_verify.specs.declared.refusal.VerifyError.TheVariants.{Device}
 
 -- what a reader has, if that is known, is what the file of this name may contain
@@ -47,7 +48,7 @@ pub record Covers {R F W : Type 0} (Holds : List ℕ → List ℕ → Type 0) (b
   pub after : CountedDevice F
   pub reader : IsReaderOf Holds bytes name before.inner
   pub opened : CoverValue
-  pub whole : ComeTo (record { first = first; second = input_of bytes before after }) IsOpened opened
+  pub whole : Yields (record { first = first; second = input_of bytes before after }) EitherOpens opened
   pub all : CoverValue
   pub added : AddsEach Holds bytes parts opened all
   pub verdict : Verdict
