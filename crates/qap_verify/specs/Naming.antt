@@ -8,7 +8,7 @@ use Rattle.qap_text.specs.Input.{Input, input_of}
 use Rattle.qap_verify.specs.Answering.{HasRun, HasTold, verdict_status}
 use Rattle.qap_verify.specs.Parts.{HasAdded, HasShown}
 use Rattle.qap_verify.specs.Refusal.{status_of}
-use Rattle.qap_verify.specs.Texts.{Yields}
+use Rattle.qap_verify.specs.Texts.{Inputs, Yields}
 use Rattle.qap_verify.specs.declared.refusal.VerifyError.TheVariants.{Device}
 
 -- what a reader has, if that is known, is what the file of this name may contain
@@ -41,16 +41,21 @@ abbrev pub AddsEach : {F : Type 0} → (List ℕ → List ℕ → Type 0) → (F
 AddsEach Holds bytes [] old new = new ≡ old
 AddsEach Holds bytes (name ∷ names) old new = (next : CoverValue) × AddsFile Holds bytes name old next × AddsEach Holds bytes names next new
 
--- the verdict of the proof of a whole in one file, with those of parts in others beside it, has been written, and this is its status
-pub record Covers {R F W : Type 0} (Holds : List ℕ → List ℕ → Type 0) (bytes : F → Option (List ℕ)) (name : List ℕ) (parts : List (List ℕ)) (first : Input R) (wanted : Option ℤ)
+-- the verdict of the proof of a whole, with those of parts in these files beside it, has been written, and this is its status
+pub record JoinsParts {R S F W : Type 0} (Holds : List ℕ → List ℕ → Type 0) (bytes : F → Option (List ℕ)) (parts : List (List ℕ)) (i : Inputs R S) (wanted : Option ℤ)
     (contents : W → Option (List ℕ)) (old new : CountedDevice W) (exit : ℕ) : Type 0 where
-  pub before : CountedDevice F
-  pub after : CountedDevice F
-  pub reader : IsReaderOf Holds bytes name before.inner
   pub opened : CoverValue
-  pub whole : Yields (record { first = first; second = input_of bytes before after }) EitherOpens opened
+  pub whole : Yields i EitherOpens opened
   pub all : CoverValue
   pub added : AddsEach Holds bytes parts opened all
   pub verdict : Verdict
   pub shown : HasShown all contents old new verdict
   pub ends : exit ≡ verdict_status wanted verdict
+
+-- that of a whole in the file of this name
+pub record Covers {R F W : Type 0} (Holds : List ℕ → List ℕ → Type 0) (bytes : F → Option (List ℕ)) (name : List ℕ) (parts : List (List ℕ)) (first : Input R) (wanted : Option ℤ)
+    (contents : W → Option (List ℕ)) (old new : CountedDevice W) (exit : ℕ) : Type 0 where
+  pub before : CountedDevice F
+  pub after : CountedDevice F
+  pub reader : IsReaderOf Holds bytes name before.inner
+  pub run : JoinsParts Holds bytes parts (record { first = first; second = input_of bytes before after }) wanted contents old new exit

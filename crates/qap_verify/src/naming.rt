@@ -2,7 +2,8 @@
 
 ghost use Rattle.std.specs.Prelude.{◌⊎◌, IfOk, OnOk, map};
 ghost use Rattle.qap_text.specs.Input.{input_of};
-ghost use Rattle.qap_verify.specs.Naming.{AddsEach, AddsFile, Covers, HasNoFile, RunsOnFile};
+ghost use Rattle.qap_verify.specs.Naming.{AddsEach, AddsFile, Covers, HasNoFile, JoinsParts, RunsOnFile};
+ghost use Rattle.qap_verify.specs.Texts.{inputs_of};
 
 use crate::answering::{answered, refused, verdict_status};
 use crate::command_line::Files;
@@ -49,8 +50,7 @@ where
     }
 }
 
-/// Verifies the proof of the whole in the named file, and those of the parts in turn, and writes what they show together. Which leaves
-/// of the whole show less than the least cost is said as a remark, and so is the name of a part that is refused.
+/// Verifies the proof of the whole in the named file, and those of the parts beside it, as `joined` does.
 pub fn covered<R, F, D, W, M>(
     alloc: Global,
     sources: &D,
@@ -69,7 +69,31 @@ where
         (input_of R.remaining instance.old instance.new) files.now.wanted W.contents output.old output.new) }
 {
     let mut proof = Counted::new(sources.open(files.proof)?);
-    let mut cover = cover_stream(alloc, instance, &mut proof)?;
+    joined(alloc, sources, files, instance, &mut proof, output, remarks)
+}
+
+/// Verifies the proof of the whole that a reader has, and those of the parts in the named files in turn, and writes what they show
+/// together. Which leaves of the whole show less than the least cost is said as a remark, and so is the name of a part that is refused.
+pub fn joined<R, S, F, D, W, M>(
+    alloc: Global,
+    sources: &D,
+    files: &Files<'_>,
+    instance: &mut Counted<R>,
+    proof: &mut Counted<S>,
+    output: &mut Counted<W>,
+    remarks: &M,
+) -> Result<u8, VerifyError>
+where
+    R: Read,
+    S: Read,
+    F: Read + Drop,
+    D: Sources<F>,
+    W: Write,
+    M: Remarks,
+    ensures { let i = inputs_of R.remaining instance.old instance.new S.remaining proof.old proof.new in
+        IfOk result (JoinsParts (D.holds sources.now) F.remaining (map (λ name. name.now) files.now.parts.items) i files.now.wanted W.contents output.old output.new) }
+{
+    let mut cover = cover_stream(alloc, instance, proof)?;
     add_parts(alloc, sources, &files.parts, &mut cover, remarks)?;
     let lines = short_leaves(alloc, &cover)?;
     remarks.say(&lines);

@@ -1,20 +1,13 @@
-use Rattle.std.proofs.Common.{ℕ, List, Bor, map, sym, subst}
-use Rattle.qap_verify.specs.Naming.{AddsEach, IsReaderOf}
+use Rattle.std.proofs.Common.{sym, subst}
+use Rattle.std.proofs.lemmas.Result.{IfOk-weaker}
+use Rattle.qap_verify.specs.Naming.{IsReaderOf}
 use Rattle.qap_verify.proofs.naming.covered.Goals as goal
 
 pub returns : goal.returns
 returns g c =
-    let holds = g.D.Sources.holds c.args.sources.now in
-    let each = λ (names : List (Bor (List ℕ))). AddsEach holds g.F.Read.remaining (map (λ name. name.now) names) c.in_ok-cover.cover c.add_parts.new.cover in
-    record {
+    IfOk-weaker c.joined.result _ _ (λ exit h. record {
       before = c.new-proof.result;
-      after = c.cover_stream.new.proof;
-      reader = subst (IsReaderOf holds g.F.Read.remaining c.args.files.now.proof.now) (sym c.new-proof.ensures.inner) c.in_ok-open.ensures.reader;
-      opened = c.in_ok-cover.cover;
-      whole = c.in_ok-cover.ensures;
-      all = c.add_parts.new.cover;
-      added = subst each c.deref.ensures.value c.in_ok-add_parts.ensures;
-      verdict = c.in_ok-verdict.verdict;
-      shown = c.in_ok-verdict.ensures;
-      ends = c.verdict_status.ensures;
-    }
+      after = c.joined.new.proof;
+      reader = subst (IsReaderOf (g.D.Sources.holds c.args.sources.now) g.F.Read.remaining c.args.files.now.proof.now) (sym c.new-proof.ensures.inner) c.in_ok-open.ensures.reader;
+      run = h;
+    }) c.joined.ensures
