@@ -38,9 +38,14 @@ pub record PartUnread {S : Type 0} (i : Input S) (e : VerifyError) : Type 0 wher
   pub read : IsReadFault i.bytes max_input i.before i.after fault
   pub unstreamed : IsTooLongUnstreamed i fault
 
+-- memory ran out, and no call of the reader failed
+pub record PartWantsMemory {S : Type 0} (i : Input S) (e : VerifyError) : Type 0 where
+  pub is : e ≡ OutOfMemory
+  pub kept : i.after.failures ≡ i.before.failures
+
 -- the bytes cannot be read, the text is at fault, or memory ran out
 abbrev pub HasNotAdded : {S : Type 0} → Input S → Problem → VerifyError → Type 0
-HasNotAdded i I e = PartUnread i e ⊎ (IsNoPart i I e ⊎ (e ≡ OutOfMemory))
+HasNotAdded i I e = PartUnread i e ⊎ (IsNoPart i I e ⊎ PartWantsMemory i e)
 
 -- the verdict is what the proofs establish together, and it is true
 abbrev pub ShowTogether : CoverValue → Verdict → Type 0

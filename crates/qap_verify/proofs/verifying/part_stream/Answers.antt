@@ -53,7 +53,7 @@ returns-in_err-add_part g c =
     let refused = subst (λ (t : List ℕ). (fault ≡ ProofMemory) ⊎ EitherIsRefused I t fault) c.as_slice.ensures.value (c.in_err-add_part.ensures {u = tt}).0 in
     rw p.1 (
       ⊎_elim
-          (λ memory. inr (inr (p.2 ∙ ap of_proof memory)))
+          (λ memory. inr (inr (record { is = p.2 ∙ ap of_proof memory; kept = read.kept })))
           (λ fault_is. inr (inl (record { text = text; read = inl read; fault = fault; is = p.2; refused = fault_is })))
           refused,
       (c.in_err-add_part.ensures {u = tt}).1,
