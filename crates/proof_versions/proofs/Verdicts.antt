@@ -6,7 +6,7 @@ use Rattle.qap_cost.specs.Placement.{Placement}
 use Rattle.qap_cost.specs.Range.{IsLimited}
 use Rattle.pair_duals.proofs.CostSteps.{step-divides}
 use Rattle.qap_proof.specs.Acceptance.{IsLimitedVerdict, IsRefused, IsSo, ProvesFor, ShowsVerdict}
-use Rattle.qap_proof.specs.Cover.{CoverValue, Establishes, HasPart, IsAdmitted}
+use Rattle.qap_proof.specs.Cover.{CoverValue, Establishes, HasPart, IsAdmitted, IsOpened}
 use Rattle.qap_proof.specs.OverRoot.{ProvesForAnother}
 use Rattle.qap_proof.specs.declared.error.ProofError.{ProofError}
 use Rattle.qap_proof.specs.declared.error.ProofError.TheVariants.{OutOfMemory}
@@ -19,7 +19,9 @@ use Rattle.proof_tree.proofs.Validity.{Proves-NoneCompletesForLess}
 use Rattle.proof_tree.specs.Claim.{IsPairProof, PairClaim, PairProves}
 use Rattle.qap_proof.specs.Claim.{NoneCompletesForLess}
 use Rattle.proof_versions.specs.Adding.{HasEitherPart, HasPairPart}
+use Rattle.proof_versions.specs.Opening.{EitherOpens, PairsOpen}
 use Rattle.proof_versions.specs.OverRoot.{EitherProvesFor, EitherProvesForAnother, PairProvesFor}
+use Rattle.proof_versions.specs.Streams.{StreamOpens, StreamRefuses}
 use Rattle.proof_versions.specs.Versions.{EitherIsRefused, EitherIsSo, EitherShows, RefusesNoPairs, StatesVersionTwo}
 use Rattle.proof_versions.proofs.Fronts.{behind_version, pair_proof_parts}
 
@@ -106,3 +108,16 @@ adds-first I text old new (Err e) other (inr refused, kept) = (inr (EitherIsRefu
 pub shows-pairs : (I : Problem) (text : List ℕ) (r : Result Verdict ProofError) → StatesVersionTwo text → IfOk r (ShowsPairVerdict I text) → IfErr r (RefusesNoPairs I text) → MatchResult r (EitherShows I text) (λ e. (e ≡ OutOfMemory) ⊎ EitherIsRefused I text e)
 shows-pairs I text (Ok v) two shows refused = inr shows
 shows-pairs I text (Err e) two shows refused = inr (refused, inl two)
+
+-- what version 1 opens, either does
+pub opens-first : (I : Problem) (text : List ℕ) (r : Result CoverValue ProofError) → (StatesVersionTwo text → ⊥) → MatchResult r (IsOpened I text) (λ e. (e ≡ OutOfMemory) ⊎ IsRefused I text e)
+    → MatchResult r (EitherOpens I text) (λ e. (e ≡ OutOfMemory) ⊎ EitherIsRefused I text e)
+opens-first I text (Ok c) other h = inl h
+opens-first I text (Err e) other (inl memory) = inl memory
+opens-first I text (Err e) other (inr refused) = inr (EitherIsRefused-first I text e other refused)
+
+-- and what version 2 does
+pub opens-pairs : (I : Problem) (text : List ℕ) (r : Result CoverValue ProofError) → StatesVersionTwo text → IfOk r (StreamOpens I (Some text)) → IfErr r (StreamRefuses I (Some text))
+    → MatchResult r (EitherOpens I text) (λ e. (e ≡ OutOfMemory) ⊎ EitherIsRefused I text e)
+opens-pairs I text (Ok c) two opened refused = inr (subst (λ (t : List ℕ). PairsOpen I t c) (sym opened.whole) opened.opened)
+opens-pairs I text (Err e) two opened refused = inr (refused text refl, inl two)

@@ -1,5 +1,5 @@
 pub mod Adding
+pub mod Opening
 pub mod OverRoot
-pub mod Part
 pub mod Streams
 pub mod Versions

@@ -2,12 +2,13 @@
 
 ghost use Rattle.std.specs.Prelude.{◌≡◌, ◌⊎◌, MatchResult};
 ghost use Rattle.proof_versions.specs.Adding.{HasEitherPart};
+ghost use Rattle.proof_versions.specs.Streams.{StreamAdds, StreamRefuses};
 ghost use Rattle.proof_versions.specs.Versions.{EitherIsRefused};
 
-use crate::over_root::pair_stated;
-use crate::pairs::states_version_two;
+use crate::pairs::{pair_stated, states_version_two, stream_stated};
 use qap_proof::{Cover, ProofError};
 use std::alloc::Global;
+use std::io::BufRead;
 
 /// Adds the proof of a part in either version, from its text. It is checked, and faults are reported, as in `accept`;
 /// if it is refused, nothing is added.
@@ -21,5 +22,21 @@ pub fn add_part(alloc: Global, cover: &mut Cover, text: &[u8]) -> Result<(), Pro
     }
     let part = pair_stated(alloc, cover.instance(), text)?;
     cover.admit(&part.root, part.cost, part.bound);
+    Ok(())
+}
+
+/// Adds the proof of a part of version 2, which is all that a reader has left. It is checked as in `accept_stream`; if it
+/// is refused, nothing is added.
+pub fn add_part_stream<R: BufRead>(
+    alloc: Global,
+    cover: &mut Cover,
+    reader: &mut R,
+) -> Result<(), ProofError>
+    ensures { MatchResult result
+        (λ done. StreamAdds (R.remaining reader.old) cover.old cover.new)
+        (λ e. StreamRefuses cover.old.instance (R.remaining reader.old) e × (cover.new ≡ cover.old)) }
+{
+    let stated = stream_stated(alloc, cover.instance(), reader)?;
+    cover.admit(&stated.root, stated.cost, stated.bound);
     Ok(())
 }

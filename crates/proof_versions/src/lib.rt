@@ -3,11 +3,12 @@
 
 mod acceptance;
 mod adding;
+mod opening;
 mod over_root;
 mod pairs;
-mod part;
 
 pub use acceptance::accept;
-pub use adding::add_part;
+pub use adding::{add_part, add_part_stream};
+pub use opening::{open_cover, open_cover_stream};
 pub use over_root::accept_over;
 pub use pairs::{VERSION_LENGTH, accept_stream, states_version_two};

@@ -1,26 +1,14 @@
 //! Checks texts of proofs in both versions over a known root.
 
-ghost use Rattle.std.specs.Prelude.{◌≡◌, ◌⊎◌, ◌↔◌, IsTrue, IfErr, IfOk, IfSome, MatchOption, MatchResult};
+ghost use Rattle.std.specs.Prelude.{◌≡◌, ◌⊎◌, ◌↔◌, IsTrue, IfOk, IfSome, MatchOption, MatchResult};
 ghost use Rattle.qap_proof.specs.Claim.{NoneCompletesForLess};
-ghost use Rattle.proof_versions.specs.OverRoot.{EitherProvesFor, EitherProvesForAnother, PairProvesFor};
-ghost use Rattle.proof_versions.specs.Versions.{EitherIsRefused, RefusesNoPairs};
+ghost use Rattle.proof_versions.specs.OverRoot.{EitherProvesFor, EitherProvesForAnother};
+ghost use Rattle.proof_versions.specs.Versions.{EitherIsRefused};
 
-use crate::pairs::{accept_pairs, states_version_two};
-use crate::part::part_stated;
+use crate::pairs::{pair_stated, states_version_two};
 use qap_cost::{Instance, Partial};
-use qap_proof::{ProofError, Stated, Verdict};
+use qap_proof::{ProofError, Stated};
 use std::alloc::Global;
-
-/// The line of a root that isn't empty.
-const ROOT_LINE: u64 = 5;
-
-/// What a proof of version 2 states.
-#[derive(Drop)]
-pub(crate) struct PairStated {
-    pub(crate) root: Partial,
-    pub(crate) cost: i128,
-    pub(crate) bound: i128,
-}
 
 /// What a text establishes about the permutations that complete this root, if it is that of a proof in either version
 /// over the root which proves its bound for the instance; `None` if it is one over another root. It is checked, and
@@ -47,38 +35,6 @@ pub fn accept_over(
         cost: stated.cost,
         bound: stated.bound,
     }))
-}
-
-/// What a text of version 2 states, where it is that of a proof which proves its bound for the instance.
-pub(crate) fn pair_stated(
-    alloc: Global,
-    instance: &Instance,
-    text: &[u8],
-) -> Result<PairStated, ProofError>
-    ensures proves { IfOk result (λ s. PairProvesFor instance.now text.now s.root s.cost s.bound) }
-    ensures refused { IfErr result (RefusesNoPairs instance.now text.now) }
-{
-    let size = instance.size();
-    match accept_pairs(alloc, instance, text)? {
-        Verdict::Optimal(cost) => Ok(PairStated {
-            root: Partial::root(alloc, size)?,
-            cost,
-            bound: cost,
-        }),
-        Verdict::Gap(bound, cost) => Ok(PairStated {
-            root: Partial::root(alloc, size)?,
-            cost,
-            bound,
-        }),
-        Verdict::Part(bound) => match part_stated(alloc, text, size)? {
-            Some(part) => Ok(PairStated {
-                root: part.root,
-                cost: part.cost,
-                bound,
-            }),
-            None => Err(ProofError::RootBad(ROOT_LINE)),
-        },
-    }
 }
 
 /// Whether two nodes are the same, listed in the same order.

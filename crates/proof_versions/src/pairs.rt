@@ -4,11 +4,12 @@ ghost use Rattle.std.specs.Prelude.{◌≡◌, ◌⊎◌, ◌↔◌, IsTrue, IfE
 ghost use Rattle.pair_duals.specs.CostStep.{step_of};
 ghost use Rattle.proof_check.specs.Acceptance.{ShowsPairVerdict};
 ghost use Rattle.qap_proof.specs.Acceptance.{IsLimitedVerdict};
+ghost use Rattle.proof_versions.specs.OverRoot.{PairProvesFor};
 ghost use Rattle.proof_versions.specs.Versions.{RefusesNoPairs, StatesVersionTwo};
-ghost use Rattle.proof_versions.specs.Streams.{StreamRefuses, StreamShows};
+ghost use Rattle.proof_versions.specs.Streams.{StreamProves, StreamRefuses, StreamShows};
 
 use pair_duals::cost_step;
-use proof_check::accept;
+use proof_check::{Checked, accept, accept_stated};
 use qap_cost::Instance;
 use qap_proof::{ProofError, Verdict};
 use std::alloc::Global;
@@ -43,6 +44,32 @@ pub fn accept_stream<R: BufRead>(
     accept(alloc, instance, step(instance), reader)
 }
 
+/// What all that a reader has left states, if it is the text of a proof of version 2 which proves its bound for the
+/// instance. It is checked as in `accept_stream`.
+pub(crate) fn stream_stated<R: BufRead>(
+    alloc: Global,
+    instance: &Instance,
+    reader: &mut R,
+) -> Result<Checked, ProofError>
+    ensures proves { IfOk result (λ s. StreamProves instance.now (R.remaining reader.old) s.root s.cost s.bound) }
+    ensures refused { IfErr result (StreamRefuses instance.now (R.remaining reader.old)) }
+{
+    accept_stated(alloc, instance, step(instance), reader)
+}
+
+/// What a text of version 2 states, where it is that of a proof which proves its bound for the instance.
+pub(crate) fn pair_stated(
+    alloc: Global,
+    instance: &Instance,
+    text: &[u8],
+) -> Result<Checked, ProofError>
+    ensures proves { IfOk result (λ s. PairProvesFor instance.now text.now s.root s.cost s.bound) }
+    ensures refused { IfErr result (RefusesNoPairs instance.now text.now) }
+{
+    let mut bytes = text;
+    accept_stated(alloc, instance, step(instance), &mut bytes)
+}
+
 /// What a text of version 2 shows of an instance's costs.
 pub(crate) fn accept_pairs(
     alloc: Global,
@@ -57,7 +84,7 @@ pub(crate) fn accept_pairs(
 }
 
 /// The instance's cost step. As entries are from -10^9 to 10^9, it is at most 2 * 10^18.
-fn step(instance: &Instance) -> u64
+pub(crate) fn step(instance: &Instance) -> u64
     ensures { result ≡ step_of instance.now }
 {
     let size = instance.size();

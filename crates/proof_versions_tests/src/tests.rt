@@ -1,6 +1,6 @@
 //! What no clause states: that proofs in both versions are accepted, and which fault is reported for others.
 
-use proof_versions::{accept, accept_over, add_part};
+use proof_versions::{accept, accept_over, add_part, add_part_stream, open_cover};
 use qap_cost::{Instance, Partial};
 use qap_proof::{Cover, ProofError, Stated, Verdict, read_node_text};
 use std::alloc::{AllocError, Global};
@@ -142,6 +142,25 @@ fn parts(rt: HostRuntime) -> Result<(), Fail> {
     assert_eq!(rt; cover.verdict(), Verdict::Gap(10, 11));
     assert_eq!(rt; add_part(alloc, &mut cover, CLOSED), Ok(()));
     assert_eq!(rt; cover.verdict(), Verdict::Optimal(11));
+    Ok(())
+}
+
+/// The leaf at location 1 shows 3 or 11, and a part over it the least cost.
+#[test]
+fn wholes(rt: HostRuntime) -> Result<(), Fail> {
+    let alloc = rt.alloc();
+    let Some(two) = two(alloc)? else {
+        panic!(rt; "an instance is refused");
+    };
+    for (text, bound) in [(WHOLE, 3), (GAP, 11)] {
+        let Ok(mut cover) = open_cover(alloc, &two, text) else {
+            panic!(rt; "a proof is refused");
+        };
+        assert_eq!(rt; cover.verdict(), Verdict::Gap(bound, 17));
+        let mut reader = CLOSED;
+        assert_eq!(rt; add_part_stream(alloc, &mut cover, &mut reader), Ok(()));
+        assert_eq!(rt; cover.verdict(), Verdict::Optimal(11));
+    }
     Ok(())
 }
 

@@ -2,7 +2,6 @@
 use Rattle.std.specs.Prelude.{◌≡◌, ℕ, ◌⊎◌, List, Option}
 use Rattle.qap_cost.specs.Instance.{Problem}
 use Rattle.qap_io.specs.Refusal.{RefusalText, memory_refusal, device_refusal}
-use Rattle.qap_proof.specs.Acceptance.{IsRefused}
 use Rattle.qap_proof.specs.Refusal.{proof_refusal}
 use Rattle.qap_proof.specs.declared.error.ProofError.{ProofError}
 use Rattle.qap_proof.specs.declared.error.ProofError.TheVariants.{OutOfMemory as ProofMemory, Device as ProofDevice}
@@ -13,7 +12,7 @@ use Rattle.qap_text.specs.Refusal.{text_refusal}
 use Rattle.qap_text.specs.Whole.{IsReadFault}
 use Rattle.qap_text.specs.declared.error.TextError.{TextError}
 use Rattle.qap_text.specs.declared.error.TextError.TheVariants.{OutOfMemory as TextMemory, Device as TextDevice}
-use Rattle.qap_verify.specs.Texts.{Inputs, IsUnread, ProofWaits, KeepsCounts}
+use Rattle.qap_verify.specs.Texts.{Inputs, IsTooLongUnstreamed, IsUnread, ProofWaits, KeepsCounts}
 use Rattle.qap_verify.specs.declared.refusal.VerifyError.{VerifyError}
 use Rattle.qap_verify.specs.declared.refusal.VerifyError.TheVariants.{Text, Proof, OutOfMemory, Device}
 
@@ -40,7 +39,7 @@ pub record NoInstance {R S : Type 0} (i : Inputs R S) (e : VerifyError) : Type 0
   pub of_input : HasNoInstance i.first fault
   pub unread : IsUnread i
 
--- an instance was read, and then the bytes of the proof cannot be read within the limit
+-- an instance was read, and then the bytes of the proof cannot be read within the limit, which holds unless they state version 2
 pub record ProofUnread {R S : Type 0} (i : Inputs R S) (e : VerifyError) : Type 0 where
   pub fault : TextError
   pub is : e ≡ of_text fault
@@ -48,6 +47,7 @@ pub record ProofUnread {R S : Type 0} (i : Inputs R S) (e : VerifyError) : Type 
   pub rest : List ℕ
   pub instance_read : HasInstance i.first problem rest
   pub read : IsReadFault i.second.bytes max_input i.second.before i.second.after fault
+  pub unstreamed : IsTooLongUnstreamed i.second fault
 
 -- memory ran out, and no call of a reader failed
 pub record WantsMemory {R S : Type 0} (i : Inputs R S) (e : VerifyError) : Type 0 where
@@ -62,10 +62,6 @@ HasNoTexts i e = NoInstance i e ⊎ (ProofUnread i e ⊎ WantsMemory i e)
 -- the text is refused as a proof in either version that proves its bound
 abbrev pub IsNoProof : Problem → List ℕ → VerifyError → Type 0
 IsNoProof I text e = (fault : ProofError) × (e ≡ of_proof fault) × EitherIsRefused I text fault
-
--- the text has this first fault as a proof of version 1 that proves its bound, as required of a whole with parts
-abbrev pub IsNoWhole : Problem → List ℕ → VerifyError → Type 0
-IsNoWhole I text e = (fault : ProofError) × (e ≡ of_proof fault) × IsRefused I text fault
 
 -- the refusal that reports a run's error
 abbrev pub refusal_of : VerifyError → RefusalText

@@ -33,7 +33,7 @@ pub fn parse<'a>(alloc: Global, words: &'a [String]) -> Result<Files<'a>, Error>
         .value_name("BOUND")
         .help("end with status 0 if this bound is shown, of a part or of all, else with 5");
     let parts = Arg::new(alloc, "PART").num_args(0..).help(
-        "proofs of parts, each over a node of its own; then PROOF is in the format qapproof 1",
+        "proofs of parts, each over a node of its own, in either format",
     );
     let mut command = Command::new(alloc, "qapverify")
         .bin_name("qapverify")?

@@ -18,7 +18,7 @@ use clap::Error;
 use clap::error::ErrorKind;
 use command_line::{Files, parse};
 use larger::larger_text;
-use naming::{Remarks, covered, verified};
+use naming::{Remarks, covered, joined, verified};
 use plan_charge::is_restricting;
 use plan_input::{Loaded, is_plan, load_problem};
 use qap_io::{Counted, Status};
@@ -119,16 +119,13 @@ fn run_on_restricted(rt: &HostRuntime, files: &Files<'_>, loaded: &Loaded) -> Ex
 
 /// Verifies what is claimed of the instance whose text this reader has. `-` stands for a proof that comes from standard input.
 fn run_on<R: Read + Drop>(rt: &HostRuntime, files: &Files<'_>, instance: R) -> ExitCode {
+    if !files.parts.is_empty() {
+        return run_with_parts(rt, files, instance);
+    }
     let (alloc, system) = (rt.alloc(), System { rt });
     let mut instance = Counted::new(instance);
     let mut output = Counted::new(rt.stdout());
     let mut errors = Counted::new(rt.stderr());
-    if !files.parts.is_empty() {
-        return match covered(alloc, &system, files, &mut instance, &mut output, &system) {
-            Ok(code) => ExitCode::from(code),
-            Err(error) => refuse(rt, error),
-        };
-    }
     let code = if files.proof == "-" {
         let mut proof = Counted::new(rt.stdin());
         answered(
@@ -150,6 +147,31 @@ fn run_on<R: Read + Drop>(rt: &HostRuntime, files: &Files<'_>, instance: R) -> E
         )
     };
     ExitCode::from(code)
+}
+
+/// Likewise, with proofs of parts beside that of a whole.
+fn run_with_parts<R: Read + Drop>(rt: &HostRuntime, files: &Files<'_>, instance: R) -> ExitCode {
+    let (alloc, system) = (rt.alloc(), System { rt });
+    let mut instance = Counted::new(instance);
+    let mut output = Counted::new(rt.stdout());
+    let ended = if files.proof == "-" {
+        let mut proof = Counted::new(rt.stdin());
+        joined(
+            alloc,
+            &system,
+            files,
+            &mut instance,
+            &mut proof,
+            &mut output,
+            &system,
+        )
+    } else {
+        covered(alloc, &system, files, &mut instance, &mut output, &system)
+    };
+    match ended {
+        Ok(code) => ExitCode::from(code),
+        Err(error) => refuse(rt, error),
+    }
 }
 
 impl Remarks for System<'_> {

@@ -3,16 +3,19 @@
 ghost use Rattle.std.specs.Prelude.{◌≡◌, ◌⊎◌, IfOk, MatchResult, string_bytes};
 ghost use Rattle.std.specs.Io.KnownBytes.{prepend_known};
 ghost use Rattle.qap_proof.specs.Acceptance.{IsLimitedVerdict};
-ghost use Rattle.qap_proof.specs.Cover.{IsOpened};
 ghost use Rattle.qap_text.specs.Input.{input_of};
-ghost use Rattle.proof_versions.specs.Streams.{StreamShows};
+ghost use Rattle.proof_versions.specs.Opening.{EitherOpens};
+ghost use Rattle.proof_versions.specs.Streams.{StreamAdds, StreamOpens, StreamShows};
 ghost use Rattle.qap_verify.specs.Answering.{HasAnswered, HasNotAnswered, Proves, answer_line};
 ghost use Rattle.qap_verify.specs.Parts.{HasAdded, HasNotAdded, HasNotShown, HasShown};
-ghost use Rattle.qap_verify.specs.Refusal.{HasNoTexts, IsNoProof, IsNoWhole, RefusesStream};
-ghost use Rattle.qap_verify.specs.Texts.{ComeTo, HasTexts, Yields, inputs_of};
+ghost use Rattle.qap_verify.specs.Refusal.{HasNoTexts, IsNoProof, RefusesStream};
+ghost use Rattle.qap_verify.specs.Texts.{HasFront, Yields, inputs_of};
 
 use crate::refusal::VerifyError;
-use proof_versions::{VERSION_LENGTH, accept, accept_stream, add_part, states_version_two};
+use proof_versions::{
+    VERSION_LENGTH, accept, accept_stream, add_part, add_part_stream, open_cover,
+    open_cover_stream, states_version_two,
+};
 use qap_cost::Instance;
 use qap_io::{Counted, send};
 use qap_proof::{Cover, Verdict};
@@ -20,11 +23,11 @@ use qap_text::{MAX_INPUT, gap_line, read_all, read_behind, read_front, read_inst
 use std::alloc::{AllocError, Global};
 use std::io::{BufReader, Read, Write};
 
-/// An instance, and the text of a proof.
+/// An instance, and the first bytes of a proof's text, which state its version.
 #[derive(Drop)]
-struct Texts {
+struct Beginning {
     instance: Instance,
-    proof: Vec<u8>,
+    front: Vec<u8>,
 }
 
 /// Reads an instance and a proof in either version, and writes one line with what the proof establishes: the least
@@ -50,19 +53,24 @@ pub fn verify_stream<R: Read, S: Read, W: Write>(
     Ok(verdict)
 }
 
-/// Reads an instance and the proof of a whole, which is of version 1 and beside which proofs of parts may come. The
-/// readers are asked as by `verify_stream`.
+/// Reads an instance and the proof of a whole in either version, beside which proofs of parts may come. The readers are
+/// asked, and a proof of version 2 is checked as it is read, as by `verify_stream`.
 pub fn cover_stream<R: Read, S: Read>(
     alloc: Global,
     instance: &mut Counted<R>,
     proof: &mut Counted<S>,
 ) -> Result<Cover, VerifyError>
     ensures { let i = inputs_of R.remaining instance.old instance.new S.remaining proof.old proof.new in MatchResult result
-        (ComeTo i IsOpened)
-        (λ e. HasNoTexts i e ⊎ ComeTo i IsNoWhole e) }
+        (Yields i EitherOpens)
+        (λ e. HasNoTexts i e ⊎ Yields i IsNoProof e) }
 {
-    let texts = read_texts(alloc, instance, proof)?;
-    Ok(Cover::new(alloc, &texts.instance, texts.proof.as_slice())?)
+    let begun = read_beginning(alloc, instance, proof)?;
+    if states_version_two(&begun.front) {
+        return opened(alloc, &begun.instance, &begun.front, proof);
+    }
+    let Beginning { instance, front } = begun;
+    let text = read_behind(front, proof, MAX_INPUT)?;
+    Ok(open_cover(alloc, &instance, text.as_slice())?)
 }
 
 /// Reads the proof of a part in either version, which is all that the reader has, and adds it to the others. Where it is
@@ -76,7 +84,11 @@ pub fn part_stream<S: Read>(
         (λ done. HasAdded i cover.old cover.new)
         (λ e. HasNotAdded i cover.old.instance e × (cover.new ≡ cover.old)) }
 {
-    let text = read_all(alloc, proof, MAX_INPUT)?;
+    let front = read_front(alloc, proof, VERSION_LENGTH)?;
+    if states_version_two(&front) {
+        return part_streamed(alloc, cover, &front, proof);
+    }
+    let text = read_behind(front, proof, MAX_INPUT)?;
     add_part(alloc, cover, text.as_slice())?;
     Ok(())
 }
@@ -108,12 +120,11 @@ fn shown<R: Read, S: Read>(
         (Yields i Proves)
         (λ e. HasNoTexts i e ⊎ Yields i IsNoProof e) }
 {
-    let text = read_all(alloc, instance, MAX_INPUT)?;
-    let (instance, _) = read_instance(alloc, &text)?;
-    let front = read_front(alloc, proof, VERSION_LENGTH)?;
-    if states_version_two(&front) {
-        return streamed(alloc, &instance, &front, proof);
+    let begun = read_beginning(alloc, instance, proof)?;
+    if states_version_two(&begun.front) {
+        return streamed(alloc, &begun.instance, &begun.front, proof);
     }
+    let Beginning { instance, front } = begun;
     let text = read_behind(front, proof, MAX_INPUT)?;
     Ok(accept(alloc, &instance, text.as_slice())?)
 }
@@ -137,20 +148,57 @@ fn streamed<S: Read>(
     Ok(accept_stream(alloc, instance, &mut text)?)
 }
 
-/// Reads an instance, and then all of a proof's text.
-fn read_texts<R: Read, S: Read>(
+/// The proof of a whole of version 2 whose front has been read; the rest is checked as it is read.
+fn opened<S: Read>(
+    alloc: Global,
+    instance: &Instance,
+    front: &[u8],
+    proof: &mut Counted<S>,
+) -> Result<Cover, VerifyError>
+    ensures { MatchResult result
+        (StreamOpens instance.now (prepend_known front.now (S.remaining proof.old.inner)))
+        (RefusesStream instance.now (prepend_known front.now (S.remaining proof.old.inner))) }
+{
+    let Ok(rest) = BufReader::new(alloc, proof) else {
+        return Err(VerifyError::OutOfMemory);
+    };
+    let mut text = front.chain(rest);
+    Ok(open_cover_stream(alloc, instance, &mut text)?)
+}
+
+/// Adds the proof of a part of version 2 whose front has been read; the rest is checked as it is read.
+fn part_streamed<S: Read>(
+    alloc: Global,
+    cover: &mut Cover,
+    front: &[u8],
+    proof: &mut Counted<S>,
+) -> Result<(), VerifyError>
+    ensures { MatchResult result
+        (λ done. StreamAdds (prepend_known front.now (S.remaining proof.old.inner)) cover.old cover.new)
+        (λ e. RefusesStream cover.old.instance (prepend_known front.now (S.remaining proof.old.inner)) e × (cover.new ≡ cover.old)) }
+{
+    let Ok(rest) = BufReader::new(alloc, proof) else {
+        return Err(VerifyError::OutOfMemory);
+    };
+    let mut text = front.chain(rest);
+    add_part_stream(alloc, cover, &mut text)?;
+    Ok(())
+}
+
+/// Reads an instance, and then the bytes of a proof's text that state its version.
+fn read_beginning<R: Read, S: Read>(
     alloc: Global,
     instance: &mut Counted<R>,
     proof: &mut Counted<S>,
-) -> Result<Texts, VerifyError>
+) -> Result<Beginning, VerifyError>
     ensures { let i = inputs_of R.remaining instance.old instance.new S.remaining proof.old proof.new in MatchResult result
-        (λ t. HasTexts i t.instance t.proof.items)
+        (λ b. HasFront i b.instance b.front.items)
         (HasNoTexts i) }
 {
-    let bytes = read_all(alloc, instance, MAX_INPUT)?;
-    let (instance, _) = read_instance(alloc, &bytes)?;
-    let proof = read_all(alloc, proof, MAX_INPUT)?;
-    Ok(Texts { instance, proof })
+    let text = read_all(alloc, instance, MAX_INPUT)?;
+    let (instance, _) = read_instance(alloc, &text)?;
+    let front = read_front(alloc, proof, VERSION_LENGTH)?;
+    Ok(Beginning { instance, front })
 }
 
 /// The line of a verdict.

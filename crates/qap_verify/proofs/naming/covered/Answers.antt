@@ -1,20 +1,16 @@
-use Rattle.std.proofs.Common.{ℕ, List, Bor, map, sym, subst}
-use Rattle.qap_verify.specs.Naming.{AddsEach, IsReaderOf}
+use Rattle.std.proofs.Common.{inl, inr, refl, sym, subst}
+use Rattle.std.proofs.lemmas.Result.{MatchResult-weaker, err_from_is_err_and}
+use Rattle.qap_verify.specs.Naming.{IsReaderOf}
 use Rattle.qap_verify.proofs.naming.covered.Goals as goal
+
+pub returns-in_err-open : goal.returns-in_err-open
+returns-in_err-open g c =
+    let p = err_from_is_err_and c.from_residual.result c.from_residual.ensures.1 in
+    rw (p.1, p.2) (inl ((c.in_err-open.ensures {u = tt}).refused, refl))
 
 pub returns : goal.returns
 returns g c =
-    let holds = g.D.Sources.holds c.args.sources.now in
-    let each = λ (names : List (Bor (List ℕ))). AddsEach holds g.F.Read.remaining (map (λ name. name.now) names) c.in_ok-cover.cover c.add_parts.new.cover in
-    record {
-      before = c.new-proof.result;
-      after = c.cover_stream.new.proof;
-      reader = subst (IsReaderOf holds g.F.Read.remaining c.args.files.now.proof.now) (sym c.new-proof.ensures.inner) c.in_ok-open.ensures.reader;
-      opened = c.in_ok-cover.cover;
-      whole = c.in_ok-cover.ensures;
-      all = c.add_parts.new.cover;
-      added = subst each c.deref.ensures.value c.in_ok-add_parts.ensures;
-      verdict = c.in_ok-verdict.verdict;
-      shown = c.in_ok-verdict.ensures;
-      ends = c.verdict_status.ensures;
-    }
+    let reader = subst (IsReaderOf (g.D.Sources.holds c.args.sources.now) g.F.Read.remaining c.args.files.now.proof.now) (sym c.new-proof.ensures.inner) c.in_ok-open.ensures.reader in
+    MatchResult-weaker c.joined.result c.joined.ensures
+    (λ exit h. record { before = c.new-proof.result; after = c.joined.new.proof; reader = reader; run = h })
+    (λ e h. inr (record { before = c.new-proof.result; after = c.joined.new.proof; reader = reader; run = h }))

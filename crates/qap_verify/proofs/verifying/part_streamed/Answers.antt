@@ -1,0 +1,17 @@
+use Rattle.std.proofs.Common.{◌∙◌, ℕ, List, inl, refl, rules, subst}
+use Rattle.std.specs.Prelude.{Option}
+use Rattle.std.proofs.lemmas.Result.{err_from_is_err_and}
+use Rattle.qap_proof.specs.declared.error.ProofError.TheVariants.{OutOfMemory as ProofMemory}
+use Rattle.proof_versions.specs.Streams.{StreamRefuses}
+use Rattle.qap_verify.proofs.verifying.part_streamed.Goals as goal
+
+pub returns-in_default : goal.returns-in_default
+returns-in_default g c = ((ProofMemory, refl, λ text known v shows. inl refl), refl)
+
+pub returns-in_err-add_part_stream : goal.returns-in_err-add_part_stream
+returns-in_err-add_part_stream g c =
+    let p = err_from_is_err_and c.from_residual.result c.from_residual.ensures.1 in
+    let fault = c.in_err-add_part_stream.field-0.0 in
+    let refused = subst (λ (k : Option (List ℕ)). StreamRefuses c.args.cover.now.instance k fault)
+    (c.chain-text.ensures.bytes ∙ search rules) (c.in_err-add_part_stream.ensures {u = tt}).0 in
+    rw p.1 ((fault, p.2, refused), (c.in_err-add_part_stream.ensures {u = tt}).1)
