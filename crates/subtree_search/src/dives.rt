@@ -1,6 +1,6 @@
-//! Chooses the line to split on, by random dives that estimate the number of nodes below (Knuth 1975).
+//! Chooses the line to split on: by its entries, or by random dives that estimate the number of nodes below (Knuth 1975).
 
-ghost use Rattle.std.specs.Prelude.{◌≡◌, ◌<◌, ◌≤◌, ◌≤ℤ◌, ℕ, false, IfOk, OnOk, length};
+ghost use Rattle.std.specs.Prelude.{◌≡◌, ◌<◌, ◌≤◌, ◌≤ℤ◌, false, IfOk, OnOk, length};
 ghost use Rattle.std.specs.Option.{IfSome};
 ghost use Rattle.pair_duals.specs.Reduced.{count_of};
 ghost use Rattle.pair_duals.specs.Seats.{child_at};
@@ -11,8 +11,9 @@ ghost use Rattle.subtree_search.specs.Premises.{AreSymmetries, IsNode};
 use crate::ground::Ground;
 use crate::incumbent::Incumbent;
 use crate::level::{Level, gap_to};
-use crate::line::{Line, best_line, entry_on, lack};
+use crate::line::{Hints, Line, best_line, entry_on, hinted_line, lack, nth};
 use crate::path::Path;
+use qap_symmetry::Table;
 use rand_core::{Rng, SeedableRng};
 use rand_xoshiro::Xoshiro256PlusPlus;
 use std::alloc::AllocError;
@@ -48,6 +49,21 @@ fn uniform(random: &mut Xoshiro256PlusPlus) -> f64 {
 }
 
 impl Ground<'_> {
+    /// The row or column to split on: its entries together lack least to the gap, without those of symmetric children.
+    pub fn best_line(&self, level: &Level, path: &Path, incumbent: &Incumbent) -> Line
+        requires node { IsNode self.now.instance.now self.now.duals.now self.now.step path.now level.now.form }
+        requires left { 0 < count_of level.now.form }
+        requires symmetries { AreSymmetries self.now.instance.now self.now.flows.now self.now.distances.now }
+        ensures { IsLineOf (count_of level.now.form) result }
+    {
+        let threshold = self.threshold(incumbent);
+        if level.kept(Table::Flows).is_empty() && level.kept(Table::Distances).is_empty() {
+            return best_line(&level.form, threshold);
+        }
+        let hints = self.hints(level, path);
+        hinted_line(&level.form, threshold, &hints)
+    }
+
     /// Whether the child of number `k` on a line is neither pruned nor symmetric to an earlier one.
     fn is_left(
         &self,
@@ -201,7 +217,7 @@ impl Ground<'_> {
         if self.closes(level, path, incumbent)? {
             return Ok(0.0);
         }
-        let line = best_line(&level.form, self.threshold(incumbent));
+        let line = self.best_line(level, path, incumbent);
         self.dive(level, line, deeper, path, incumbent, random)
     }
 }
@@ -252,13 +268,14 @@ impl Ground<'_> {
         ensures incumbent { IsIncumbent self.now.instance.now incumbent.new }
         ensures no_worse { incumbent.new.cost ≤ℤ incumbent.old.cost }
     {
-        let line = best_line(&level.form, self.threshold(incumbent));
+        let line = self.best_line(level, path, incumbent);
         let nodes = self.estimate(level, line, deeper, path, incumbent, FEW_DIVES)?;
         let most = i64::try_from(limit.saturating_mul(4)).unwrap_or(i64::MAX);
         Ok(nodes > nearest_i64_to_f64(most))
     }
 
-    /// The line, of the four rows and the four columns whose entries lack least to the gap, below which dives estimate the fewest nodes.
+    /// The line below which dives estimate the fewest nodes, of the four rows and the four columns that lack least
+    /// to the gap.
     pub fn sampled_line(
         &self,
         level: &Level,
@@ -277,10 +294,11 @@ impl Ground<'_> {
         ensures no_worse { incumbent.new.cost ≤ℤ incumbent.old.cost }
     {
         let threshold = self.threshold(incumbent);
-        let mut best = best_line(&level.form, threshold);
+        let hints = self.hints(level, path);
+        let mut best = self.best_line(level, path, incumbent);
         let mut fewest = f64::INFINITY;
         for rank in 0..2 * LINES {
-            let line = ranked_line(level, threshold, rank);
+            let line = ranked_line(level, threshold, rank, &hints);
             let nodes = self.estimate(level, line, deeper, path, incumbent, DIVES)?;
             if nodes < fewest {
                 best = line;
@@ -292,7 +310,7 @@ impl Ground<'_> {
 }
 
 /// Of the rows, for an even rank, or else of the columns, the one before which half as many lack less to the gap.
-fn ranked_line(level: &Level, threshold: i128, rank: usize) -> Line
+fn ranked_line(level: &Level, threshold: i128, rank: usize, hints: &Hints) -> Line
     requires { 0 < count_of level.now.form }
     ensures { IsLineOf (count_of level.now.form) result }
 {
@@ -300,36 +318,25 @@ fn ranked_line(level: &Level, threshold: i128, rank: usize) -> Line
     let mut line = nth(is_row, 0);
     for k in 0..level.form.free() {
         let other = nth(is_row, k);
-        if lines_before(level, threshold, other, is_row) == rank / 2 {
+        if lines_before(level, threshold, other, is_row, hints) == rank / 2 {
             line = other;
         }
     }
     line
 }
 
-/// Row or column `k`.
-fn nth(is_row: bool, k: usize) -> Line
-    ensures { (m : ℕ) → k < m → IsLineOf m result }
-{
-    if is_row {
-        Line::Row(k)
-    } else {
-        Line::Column(k)
-    }
-}
-
 /// How many rows or columns lack less to the gap than this one, or as little and come before it.
-fn lines_before(level: &Level, threshold: i128, line: Line, is_row: bool) -> usize
+fn lines_before(level: &Level, threshold: i128, line: Line, is_row: bool, hints: &Hints) -> usize
     requires { IsLineOf (count_of level.now.form) line }
 {
     let gap = gap_to(&level.form, threshold).saturating_add(1);
-    let own = lack(&level.form, line, gap);
+    let own = lack(&level.form, line, gap, hints);
     let mut count: usize = 0;
     let mut is_past = false;
     for k in 0..level.form.free() {
         let other = nth(is_row, k);
         is_past = is_past || other == line;
-        let theirs = lack(&level.form, other, gap);
+        let theirs = lack(&level.form, other, gap, hints);
         if theirs < own || theirs == own && !is_past {
             count = count.saturating_add(1);
         }

@@ -14,6 +14,10 @@ pub dive-returns-clause-path : goal.dive-returns-clause-path
 dive-returns-clause-path t c =
     back_at c.args.path.now c.follow.new.path c.dive_below.new.path c.pop.new.self c.row-h.result c.column-g.result c.in_ok-below.ensures.path c.in_ok-follow.ensures.path c.pop.ensures
 
+pub dive_below-best_line-line-requires-clause-node : goal.dive_below-best_line-line-requires-clause-node
+dive_below-best_line-line-requires-clause-node t c =
+    IsNode-drawn _ _ _ _ c.args.level.now.form _ _ _ c.requires.node (c.in_ok-closes.ensures.left c.if-branch.false).line
+
 pub dive_below-dive-requires : goal.dive_below-dive-requires
 dive_below-dive-requires t c =
     let drawn = c.in_ok-closes.ensures.left c.if-branch.false in
