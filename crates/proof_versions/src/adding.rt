@@ -25,8 +25,8 @@ pub fn add_part(alloc: Global, cover: &mut Cover, text: &[u8]) -> Result<(), Pro
     Ok(())
 }
 
-/// Adds the proof of a part of version 2, which is all that a reader has left. It is checked as in `accept_stream`; if
-/// it is refused, nothing is added.
+/// Adds the proof of a part of version 2, which is all that a reader has left. It is checked as in `accept_stream`; if it
+/// is refused, nothing is added.
 pub fn add_part_stream<R: BufRead>(
     alloc: Global,
     cover: &mut Cover,

@@ -74,9 +74,9 @@ where
     joined(alloc, sources, files, instance, &mut proof, output, remarks)
 }
 
-/// Verifies the proof of the whole that a reader has, and those of the parts in the named files in turn, and writes
-/// what they show together. Which leaves of the whole show less than the least cost is said as a remark, and so is the
-/// name of a part that is refused.
+/// Verifies the proof of the whole that a reader has, and those of the parts in the named files in turn, and writes what
+/// they show together. Which leaves of the whole show less than the least cost is said as a remark, and so is the name of
+/// a part that is refused.
 pub fn joined<R, S, F, D, W, M>(
     alloc: Global,
     sources: &D,
