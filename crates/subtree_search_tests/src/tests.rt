@@ -172,6 +172,47 @@ fn searches_find_the_least(rt: HostRuntime) -> Result<(), Fail> {
     Ok(())
 }
 
+/// The only flows of an instance whose locations are the corners of a cube.
+static TRIANGLE: [(usize, usize, i64); 3] = [(5, 6, 3), (6, 7, 2), (5, 7, 1)];
+
+/// The flow between two facilities.
+fn flow(i: usize, j: usize) -> i64 {
+    for (f, g, flow) in TRIANGLE {
+        if (i, j) == (f, g) || (i, j) == (g, f) {
+            return flow;
+        }
+    }
+    0
+}
+
+/// The instance, whose distances are those along edges of the cube.
+fn triangle_on_cube(alloc: Global) -> Result<Option<Instance>, AllocError> {
+    let mut flows = Vec::new(alloc);
+    let mut distances = Vec::new(alloc);
+    for i in 0..8_usize {
+        for j in 0..8_usize {
+            flows.push(flow(i, j))?;
+            distances.push(i64::from((i ^ j).count_ones()))?;
+        }
+    }
+    Ok(Instance::new(8, flows, distances).ok())
+}
+
+/// Split on the three facilities, it has 1 + 3 + 10 children that are not symmetric to earlier ones.
+#[test]
+fn lines_with_few_children_are_chosen(rt: HostRuntime) -> Result<(), Fail> {
+    let alloc = rt.alloc();
+    let instance = triangle_on_cube(alloc)?.ok_or("instance")?;
+    let root = Partial::root(alloc, instance.size())?;
+    let best = Perm::new(Vec::from_slice(alloc, &[0, 1, 2, 3, 4, 5, 7, 6])?);
+    let best = best.ok().ok_or("permutation")?;
+    let place = (&instance, &root);
+    let found = search_below(&rt, alloc, place, &best, 2, (u64::MAX, &Never))?;
+    assert_eq!(rt; (found.outcome, found.cost), (Outcome::Closed, 14));
+    assert!(rt; found.nodes <= 14);
+    Ok(())
+}
+
 #[test]
 fn a_stop_ends_a_search(rt: HostRuntime) -> Result<(), Fail> {
     let alloc = rt.alloc();
