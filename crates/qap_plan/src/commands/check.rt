@@ -20,7 +20,7 @@ use std::alloc::{AllocError, Global};
 use std::process::ExitCode;
 
 /// The request to check an answer in JSON, with its proof if one is named.
-#[derive(Clone, Copy, Debug, PartialEq, Eq)]
+#[derive(Clone, Copy)]
 pub struct CheckRequest<'a> {
     /// The file of the plan or of the instance.
     pub file: &'a str,

@@ -18,7 +18,7 @@ use qap_command::VERSION;
 use std::alloc::{AllocError, Global};
 
 /// To solve an instance.
-#[derive(Clone, Copy, Debug, PartialEq, Eq)]
+#[derive(Clone, Copy)]
 pub struct Request<'a> {
     /// The file of the instance.
     pub file: &'a str,
@@ -46,7 +46,7 @@ pub struct Request<'a> {
 }
 
 /// The request of a command line.
-#[derive(Clone, Copy, Debug, PartialEq, Eq)]
+#[derive(Clone, Copy)]
 pub enum Task<'a> {
     /// To solve an instance.
     Solve(Request<'a>),

@@ -36,7 +36,7 @@ use std::thread::Threads;
 use std::time;
 
 /// To compare today's arrangement with the best one.
-#[derive(Clone, Copy, Debug, PartialEq, Eq)]
+#[derive(Clone, Copy)]
 pub struct CompareRequest<'a> {
     /// The file of the plan.
     pub file: &'a str,

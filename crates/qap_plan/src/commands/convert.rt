@@ -18,7 +18,7 @@ use std::alloc::{AllocError, Global};
 use std::process::ExitCode;
 
 /// To write the tables of a plan as an instance in the QAPLIB format.
-#[derive(Clone, Copy, Debug, PartialEq, Eq)]
+#[derive(Clone, Copy)]
 pub struct ConvertRequest<'a> {
     /// The file of the plan.
     pub plan: &'a str,

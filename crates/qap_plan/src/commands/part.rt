@@ -38,7 +38,7 @@ use std::thread::Threads;
 use std::time;
 
 /// To solve a part.
-#[derive(Clone, Copy, Debug, PartialEq, Eq)]
+#[derive(Clone, Copy)]
 pub struct PartRequest<'a> {
     /// The file of the instance.
     pub file: &'a str,

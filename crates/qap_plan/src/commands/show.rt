@@ -29,7 +29,7 @@ use std::alloc::{AllocError, Global};
 use std::process::ExitCode;
 
 /// To show an answer again that was written as JSON.
-#[derive(Clone, Copy, Debug, PartialEq, Eq)]
+#[derive(Clone, Copy)]
 pub struct ShowRequest<'a> {
     /// The file of the plan or of the instance.
     pub file: &'a str,

@@ -38,7 +38,7 @@ use std::time;
 const MAX_PARTS: u64 = 1 << 20;
 
 /// The request to split the search of an instance into parts.
-#[derive(Clone, Copy, Debug, PartialEq, Eq)]
+#[derive(Clone, Copy)]
 pub struct SplitRequest<'a> {
     /// The file of the instance.
     pub file: &'a str,

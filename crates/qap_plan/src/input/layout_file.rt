@@ -94,7 +94,7 @@ pub fn layout_in<'a>(
 }
 
 /// How a text states an arrangement.
-#[derive(Clone, Copy, Debug, PartialEq, Eq)]
+#[derive(Clone, Copy)]
 enum Form {
     Json,
     Layout,

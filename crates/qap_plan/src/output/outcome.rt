@@ -10,7 +10,7 @@ use qap_io::Status;
 use std::alloc::Global;
 
 /// An output of a run.
-#[derive(Clone, Copy, Debug, PartialEq, Eq)]
+#[derive(Clone, Copy)]
 pub enum Kind {
     /// The answer in words.
     Answer,

@@ -21,7 +21,7 @@ const LOOK_MS: u64 = 100;
 const MOST_DECIMALS: usize = 40;
 
 /// How a run reports its progress.
-#[derive(Clone, Copy, Debug, PartialEq, Eq)]
+#[derive(Clone, Copy, PartialEq, Eq)]
 pub enum Telling {
     /// Not at all.
     Never,

@@ -1,7 +1,7 @@
 //! The clock, stop and observer of a run.
 
 /// How far a search has come.
-#[derive(Clone, Copy, Debug, PartialEq, Eq)]
+#[derive(Clone, Copy)]
 pub struct Progress {
     /// The cost of the incumbent, if that is to be reported.
     pub cost: Option<i128>,

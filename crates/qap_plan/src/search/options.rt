@@ -37,7 +37,7 @@ const MS_PER_SQUARE: u64 = 10;
 const TURN_MS: u64 = 1000;
 
 /// The options of a search.
-#[derive(Clone, Copy, Debug, PartialEq, Eq)]
+#[derive(Clone, Copy)]
 pub struct Options {
     /// The number of workers, each in its own thread: from 1 to 64.
     pub workers: u16,
