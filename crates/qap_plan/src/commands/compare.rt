@@ -8,7 +8,7 @@ ghost use Rattle.qap_plan.specs.Comparing.{Compares, ComparesFrom, IsComparedIn,
 ghost use Rattle.qap_plan.specs.Options.{AreLimited};
 ghost use Rattle.qap_plan.specs.Outputs.{EndsWith, IsSuccess, WritesFor};
 
-use crate::commands::command_line::{options_of, with_improvement, with_limits};
+use crate::commands::command_line::{columns_in, options_of, with_improvement, with_limits};
 use crate::error::PlannerError;
 use crate::files::outputs::{Outputs, worse};
 use crate::files::refusal::{Misuse, Refusal, ended};
@@ -45,8 +45,8 @@ pub struct CompareRequest<'a> {
     pub options: Options,
     /// The file that the best arrangement is written to, as a table.
     pub csv: Option<&'a str>,
-    /// Whether to report progress on standard error even if that is not a terminal.
-    pub progress: bool,
+    /// How many columns a line of progress on standard error may have; `None` if none is to be reported.
+    pub columns: Option<usize>,
     /// The file whose being there stops the search.
     pub stop_file: Option<&'a str>,
 }
@@ -81,7 +81,7 @@ pub fn compare_request<'a>(found: &ArgMatches<'a>) -> Option<CompareRequest<'a>>
         today: found.get_str("TODAY")?,
         options: options_of(found, false, false)?,
         csv: found.get_str("csv"),
-        progress: found.get_flag("progress"),
+        columns: columns_in(found),
         stop_file: found.get_str("stop-file"),
     })
 }
@@ -93,7 +93,7 @@ where
     requires { AreLimited request.now.options }
 {
     let clock = RunClock::new(system, request.options.milliseconds);
-    let telling = telling_of(rt, request.progress);
+    let telling = telling_of(rt, request.columns);
     let teller = Teller::new(rt, &clock, telling, request.stop_file);
     let mut outputs = Outputs::new(rt);
     let texts = Disk { files: rt };

@@ -9,7 +9,7 @@ ghost use Rattle.qap_plan.specs.Outcome.{status_of as status_for};
 ghost use Rattle.qap_plan.specs.Outputs.{IsSuccess, severity};
 ghost use Rattle.qap_plan.specs.Solving.{FindsPart, IsPosed, IsSolved, SolvesPart, Stands, TellsKept, TellsPart, WritesPart};
 
-use crate::commands::command_line::{ignore_rest, time_limit, with_limits};
+use crate::commands::command_line::{columns_in, ignore_rest, time_limit, with_limits};
 use crate::error::PlannerError;
 use crate::files::outputs::{Outputs, worse};
 use crate::files::refusal::{Refusal, ended};
@@ -49,8 +49,8 @@ pub struct PartRequest<'a> {
     pub options: Options,
     /// The file that the proof is written to.
     pub proof: &'a str,
-    /// Whether to report progress on standard error even if that is not a terminal.
-    pub progress: bool,
+    /// How many columns a line of progress on standard error may have; `None` if none is to be reported.
+    pub columns: Option<usize>,
     /// The file whose being there stops the search.
     pub stop_file: Option<&'a str>,
 }
@@ -114,7 +114,7 @@ pub fn part_request<'a>(found: &ArgMatches<'a>) -> Option<PartRequest<'a>>
             proves: true,
         },
         proof: found.get_str("out")?,
-        progress: found.get_flag("progress"),
+        columns: columns_in(found),
         stop_file: found.get_str("stop-file"),
     })
 }
@@ -126,7 +126,7 @@ where
     requires { AreLimited request.now.options }
 {
     let clock = RunClock::new(system, request.options.milliseconds);
-    let telling = telling_of(rt, request.progress);
+    let telling = telling_of(rt, request.columns);
     let teller = Teller::new(rt, &clock, telling, request.stop_file);
     let mut outputs = Outputs::new(rt);
     let texts = Disk { files: rt };

@@ -35,7 +35,7 @@ where
     requires { AreLimited request.now.options }
 {
     let clock = RunClock::new(system, request.options.milliseconds);
-    let telling = telling_of(rt, request.progress);
+    let telling = telling_of(rt, request.columns);
     let teller = Teller::new(rt, &clock, telling, request.stop_file);
     let mut outputs = Outputs::new(rt);
     let texts = Disk { files: rt };
