@@ -1,5 +1,4 @@
 mod Endings
-mod Kept
 mod Restricted
 mod SplitUps
 mod Starts

@@ -10,15 +10,12 @@ pub mod Charging
 pub mod Checking
 pub mod Comparing
 pub mod Converting
-pub mod Keeping
 pub mod NodeLines
-pub mod Options
 pub mod Outcome
 pub mod Outputs
 pub mod PartFiles
 pub mod Parts
 pub mod Picturing
-pub mod Planning
 pub mod Reading
 pub mod Refused
 pub mod Searched
@@ -26,5 +23,4 @@ pub mod Showing
 pub mod Solving
 pub mod Sources
 pub mod Splitting
-pub mod Standing
 pub mod Starting

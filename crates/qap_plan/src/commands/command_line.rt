@@ -2,7 +2,7 @@
 
 ghost use Rattle.std.specs.Prelude.{IfOk, IfSome};
 ghost use Rattle.qap_plan.specs.Asking.{IsLimitedTask};
-ghost use Rattle.qap_plan.specs.Options.{AreLimited};
+ghost use Rattle.plan_search.specs.Options.{AreLimited};
 
 use crate::commands::check::{CheckRequest, check_command, check_request};
 use crate::commands::compare::{CompareRequest, compare_command, compare_request};
@@ -11,9 +11,9 @@ use crate::commands::duration::milliseconds_of;
 use crate::commands::part::{PartRequest, part_command, part_request};
 use crate::commands::show::{ShowRequest, show_command, show_request};
 use crate::commands::split::{SplitRequest, split_command, split_request};
-use crate::search::options::{MAX_NODES, MAX_WORKERS, Options};
 use clap::error::ErrorKind;
 use clap::{Arg, ArgAction, ArgMatches, Command, Error, value_parser};
+use plan_search::{MAX_NODES, MAX_WORKERS, Options};
 use qap_command::VERSION;
 use std::alloc::{AllocError, Global};
 

@@ -4,7 +4,7 @@ ghost use Rattle.std.specs.Prelude.{IfOk, IfSome, None, string_bytes, ◌≡◌,
 ghost use Rattle.qap_cost.specs.Objective.{Permutes};
 ghost use Rattle.qap_proof.specs.Claim.{IsRoot};
 ghost use Rattle.qap_plan.specs.Answer.{part_line};
-ghost use Rattle.qap_plan.specs.Options.{AreLimited};
+ghost use Rattle.plan_search.specs.Options.{AreLimited};
 ghost use Rattle.qap_plan.specs.Outcome.{status_of as status_for};
 ghost use Rattle.qap_plan.specs.Outputs.{IsSuccess, severity};
 ghost use Rattle.qap_plan.specs.Solving.{FindsPart, IsPosed, IsSolved, SolvesPart, Stands, TellsKept, TellsPart, WritesPart};
@@ -17,17 +17,14 @@ use crate::files::sink::Sink;
 use crate::input::file_bytes::bytes_in;
 use crate::input::instance_file::{Searched, searched_in};
 use crate::input::starting::permutation_in;
+use crate::output::outcome::status_of;
 use crate::output::progress::{Teller, telling_of};
 use crate::output::proof_file::proof_text;
-use crate::search::keeper::Keeper;
-use crate::search::memory_limit::WithinMemory;
-use crate::search::options::{MAX_WORKERS, Options};
-use crate::search::planning::{Planned, status_of};
-use crate::search::proving::prove_below;
-use crate::search::run_clock::RunClock;
-use crate::search::standing::standing_proof;
 use clap::{Arg, ArgMatches, Command};
 use plan_input::{Disk, Texts};
+use plan_search::{
+    Keeper, MAX_WORKERS, Options, Planned, RunClock, WithinMemory, prove_below, standing_proof,
+};
 use qap_cost::{Partial, Perm, cost};
 use qap_io::Status;
 use qap_proof::{Stated, read_node_text};

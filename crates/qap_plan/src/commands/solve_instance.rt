@@ -2,7 +2,7 @@
 
 ghost use Rattle.std.specs.Prelude.{IfOk, option_copied, option_map};
 ghost use Rattle.qap_plan.specs.Answered.{AnswersInstance, HasFoundIn};
-ghost use Rattle.qap_plan.specs.Options.{AreLimited};
+ghost use Rattle.plan_search.specs.Options.{AreLimited};
 ghost use Rattle.qap_plan.specs.Outputs.{IsSuccess};
 ghost use Rattle.qap_plan.specs.Sources.{IsGivenIn};
 ghost use Rattle.qap_plan.specs.Starting.{IsReaderOf};
@@ -17,10 +17,8 @@ use crate::files::sink::Sink;
 use crate::input::file_bytes::bytes_in;
 use crate::output::found_outcome::FoundOutcome;
 use crate::output::progress::{Teller, telling_of};
-use crate::search::keeper::Keeper;
-use crate::search::planning::Planned;
-use crate::search::run_clock::RunClock;
 use plan_input::{Disk, Texts};
+use plan_search::{Keeper, Planned, RunClock};
 use qap_io::{Counted, Status};
 use std::alloc::Global;
 use std::process::ExitCode;

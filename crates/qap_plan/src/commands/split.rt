@@ -2,7 +2,7 @@
 
 ghost use Rattle.std.specs.Prelude.{IfOk, IfSome, length, option_copied, string_bytes, ◌≡◌};
 ghost use Rattle.qap_cost.specs.Objective.{Permutes};
-ghost use Rattle.qap_plan.specs.Options.{AreLimited};
+ghost use Rattle.plan_search.specs.Options.{AreLimited};
 ghost use Rattle.qap_plan.specs.Outputs.{EndsWith, IsSuccess};
 ghost use Rattle.qap_plan.specs.PartFiles.{ArePartFiles, AreTextsOf, BeginsIn, IsFileIn, SplitsUp, TellsSplit, WritesParts, split_line, split_status};
 ghost use Rattle.qap_plan.specs.Starting.{IsSolutionIn};
@@ -19,12 +19,10 @@ use crate::input::instance_file::{Searched, searched_in};
 use crate::input::starting::permutation_in;
 use crate::output::node_lines::lines_of_parts;
 use crate::output::proof_file::text_of_proof;
-use crate::search::keeper::Keeper;
-use crate::search::options::{MAX_NODES, Options};
-use crate::search::run_clock::RunClock;
 use crate::search::splitting::{Skeleton, split_up};
 use clap::{Arg, ArgMatches, Command, value_parser};
 use plan_input::{Disk, Texts};
+use plan_search::{Keeper, MAX_NODES, Options, RunClock};
 use qap_cost::{Instance, Perm};
 use qap_io::{Counted, Status};
 use qap_text::write_solution;

@@ -1,9 +1,8 @@
 //! Reports on standard error how far a search has come.
 
 use crate::output::resident::{resident_bytes, usable_bytes};
-use crate::search::keeper::{Keeper, Progress};
-use crate::search::run_clock::RunClock;
 use plan_answer::gap_text;
+use plan_search::{Keeper, Progress, RunClock};
 use plan_table::decimal_text;
 use std::alloc::{AllocError, Global};
 use std::cell::Cell;
