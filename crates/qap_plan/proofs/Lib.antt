@@ -1,4 +1,3 @@
 mod Endings
-mod Restricted
 mod SplitUps
 mod Starts

@@ -9,8 +9,8 @@ use Rattle.plan_input.specs.Loaded.{IsLoaded}
 use Rattle.plan_input.specs.declared.loading.Loaded.{Loaded}
 use Rattle.plan_search.specs.Keeping.{IsKept}
 use Rattle.qap_plan.specs.Outcome.{status_of}
-use Rattle.qap_plan.specs.Outputs.{WritesFor}
-use Rattle.qap_plan.specs.Sources.{IsPlain, IsTextIn}
+use Rattle.plan_files.specs.Outputs.{WritesFor}
+use Rattle.plan_files.specs.Sources.{IsPlain, IsTextIn}
 use Rattle.qap_plan.specs.declared.commands.compare.CompareRequest.{CompareRequest}
 use Rattle.plan_search.specs.declared.planning.Planned.{Planned}
 

@@ -3,7 +3,6 @@ pub mod Answered
 pub mod Answering
 pub mod Answers
 pub mod Asking
-pub mod Begun
 pub mod ChargedAnswer
 pub mod ChargedOutcome
 pub mod Charging
@@ -12,15 +11,9 @@ pub mod Comparing
 pub mod Converting
 pub mod NodeLines
 pub mod Outcome
-pub mod Outputs
 pub mod PartFiles
 pub mod Parts
 pub mod Picturing
-pub mod Reading
-pub mod Refused
-pub mod Searched
 pub mod Showing
 pub mod Solving
-pub mod Sources
 pub mod Splitting
-pub mod Starting

@@ -8,9 +8,9 @@ use Rattle.qap_plan.specs.Answer.{part_line}
 use Rattle.plan_search.specs.Keeping.{IsSearched}
 use Rattle.qap_plan.specs.Outcome.{IsTextOfProof, status_of}
 use Rattle.plan_search.specs.Planning.{ProvesOver, ShowsOver}
-use Rattle.qap_plan.specs.Searched.{IsSearchedIn}
+use Rattle.plan_files.specs.Searched.{IsSearchedIn}
 use Rattle.plan_search.specs.Standing.{IsStanding}
-use Rattle.qap_plan.specs.Starting.{IsSolutionIn}
+use Rattle.plan_files.specs.Starting.{IsSolutionIn}
 use Rattle.qap_plan.specs.declared.commands.part.PartRequest.{PartRequest}
 use Rattle.qap_plan.specs.declared.commands.part.Posed.{Posed}
 use Rattle.plan_search.specs.declared.planning.Planned.{Planned}

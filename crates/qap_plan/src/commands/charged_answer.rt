@@ -8,12 +8,11 @@ ghost use Rattle.qap_cost.specs.Objective.{Permutes};
 ghost use Rattle.qap_plan.specs.ChargedAnswer.{ArePartsIfCharged, IsChargedAnswer};
 ghost use Rattle.plan_search.specs.Options.{AreLimited};
 
-use crate::error::PlannerError;
-use crate::input::restriction::{Restriction, allowed_start};
 use crate::search::charging::search_restricted;
 use plan_answer::{CostParts, charged_text};
 use plan_charge::{Charges, Forbidden};
 use plan_file::NamedProblem;
+use plan_files::{PlannerError, Restriction, allowed_start};
 use plan_search::{Keeper, Options, Planned};
 use qap_cost::{Instance, Perm, cost};
 use std::alloc::Global;

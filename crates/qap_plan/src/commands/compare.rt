@@ -6,22 +6,19 @@ ghost use Rattle.plan_file.specs.Tables.{HasSizes};
 ghost use Rattle.qap_cost.specs.Placement.{Completes};
 ghost use Rattle.qap_plan.specs.Comparing.{Compares, ComparesFrom, IsComparedIn, TellsComparison};
 ghost use Rattle.plan_search.specs.Options.{AreLimited};
-ghost use Rattle.qap_plan.specs.Outputs.{EndsWith, IsSuccess, WritesFor};
+ghost use Rattle.plan_files.specs.Outputs.{EndsWith, IsSuccess, WritesFor};
 
 use crate::commands::command_line::{columns_in, options_of, with_improvement, with_limits};
-use crate::error::PlannerError;
-use crate::files::outputs::{Outputs, worse};
-use crate::files::refusal::{Misuse, Refusal, ended};
-use crate::files::sink::Sink;
-use crate::input::file_bytes::text_in;
-use crate::input::instance_file::{cost_decimals, inputs_of, is_plain, plan_in};
-use crate::input::layout_file::layout_in;
 use crate::output::outcome::status_of;
 use crate::output::plan_outcome::table_text;
 use crate::output::progress::{Teller, telling_of};
 use clap::{Arg, ArgMatches, Command};
 use plan_answer::compared_text;
 use plan_file::NamedProblem;
+use plan_files::{
+    Misuse, Outputs, PlannerError, Refusal, Sink, cost_decimals, ended, inputs_of, is_plain,
+    layout_in, plan_in, text_in, worse,
+};
 use plan_input::{Disk, Loaded, Texts, is_plan, notes_of};
 use plan_search::{Keeper, Options, Planned, RunClock, search_keeping};
 use qap_cost::Perm;

@@ -6,21 +6,18 @@ ghost use Rattle.qap_proof.specs.Claim.{IsRoot};
 ghost use Rattle.qap_plan.specs.Answer.{part_line};
 ghost use Rattle.plan_search.specs.Options.{AreLimited};
 ghost use Rattle.qap_plan.specs.Outcome.{status_of as status_for};
-ghost use Rattle.qap_plan.specs.Outputs.{IsSuccess, severity};
+ghost use Rattle.plan_files.specs.Outputs.{IsSuccess, severity};
 ghost use Rattle.qap_plan.specs.Solving.{FindsPart, IsPosed, IsSolved, SolvesPart, Stands, TellsKept, TellsPart, WritesPart};
 
 use crate::commands::command_line::{columns_in, ignore_rest, time_limit, with_limits};
-use crate::error::PlannerError;
-use crate::files::outputs::{Outputs, worse};
-use crate::files::refusal::{Refusal, ended};
-use crate::files::sink::Sink;
-use crate::input::file_bytes::bytes_in;
-use crate::input::instance_file::{Searched, searched_in};
-use crate::input::starting::permutation_in;
 use crate::output::outcome::status_of;
 use crate::output::progress::{Teller, telling_of};
 use crate::output::proof_file::proof_text;
 use clap::{Arg, ArgMatches, Command};
+use plan_files::{
+    Outputs, PlannerError, Refusal, Searched, Sink, bytes_in, ended, permutation_in, searched_in,
+    worse,
+};
 use plan_input::{Disk, Texts};
 use plan_search::{
     Keeper, MAX_WORKERS, Options, Planned, RunClock, WithinMemory, prove_below, standing_proof,

@@ -3,10 +3,10 @@
 ghost use Rattle.std.specs.Prelude.{◌≡◌, ℕ, IfOk, List};
 ghost use Rattle.qap_io.specs.declared.status.Status.{Status};
 ghost use Rattle.qap_plan.specs.Outcome.{status_of as status_for};
-ghost use Rattle.qap_plan.specs.Outputs.{IsSuccess};
+ghost use Rattle.plan_files.specs.Outputs.{IsSuccess};
 ghost use Rattle.qap_plan.specs.declared.output.outcome.Kind.{Kind};
 
-use crate::error::PlannerError;
+use plan_files::PlannerError;
 use qap_io::Status;
 use std::alloc::Global;
 

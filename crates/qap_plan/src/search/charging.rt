@@ -8,9 +8,8 @@ ghost use Rattle.qap_cost.specs.Bijection.{IsPerm};
 ghost use Rattle.qap_plan.specs.Charging.{ProvesCharged, ShowsCharged};
 ghost use Rattle.plan_search.specs.Options.{AreLimited};
 
-use crate::error::PlannerError;
-use crate::input::restriction::{Restriction, widened};
 use plan_charge::{extended_permutation, front, restricted_law};
+use plan_files::{PlannerError, Restriction, widened};
 use plan_search::{Keeper, Options, Planned, search_keeping};
 use qap_cost::{Instance, Perm};
 use std::alloc::{AllocError, Global};

@@ -7,8 +7,7 @@ ghost use Rattle.plan_search.specs.Options.{AreLimited};
 ghost use Rattle.qap_plan.specs.Parts.{IsSplitUp};
 ghost use Rattle.qap_plan.specs.Splitting.{IsSkeleton};
 
-use crate::error::PlannerError;
-use crate::input::instance_file::Searched;
+use plan_files::{PlannerError, Searched};
 use plan_search::{Keeper, MAX_NODES, Options, improved_below, own_start};
 use qap_cost::{Instance, Partial, Perm};
 use qap_proof::{MissingPart, Proof, missing_parts, refined};
