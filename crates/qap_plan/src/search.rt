@@ -12,3 +12,4 @@ pub(crate) mod searching;
 pub(crate) mod splitting;
 pub(crate) mod standing;
 pub(crate) mod subtrees;
+pub(crate) mod tabu;
