@@ -23,9 +23,9 @@ returns-clause-added g c =
     let old = g.W.Record.holds c.args.proof.now in
     let mid = g.W.Record.holds c.mark.new.self in
     let new = g.W.Record.holds c.subtree.new.self in
-    let p = c.index-part-i.result in
-    let piece : IsPiece I p = c.requires.pieces c.in-Some.i p c.in-Some.ensures.within in
+    let p = get_or c.args.part.now.pieces.now c.in-Some.i c.index-part-i.result in
+    let piece : IsPiece I p = c.requires.pieces c.in-Some.i c.index-part-i.result c.in-Some.ensures.within in
     let begun = IsBegun-left I D R S line k c.row-h.result c.column-g.result ends old mid mid c.row-h.ensures c.column-g.ensures c.in_ok-descend.ensures.child c.mark.ensures (λ t h. h) in
     let at = at_child y x line k c.row-h.result c.column-g.result c.in_ok-descend.ensures.path c.row-h.ensures c.column-g.ensures in
-    let kid = HasKid-proof I D s y x R line k p.bound ends old mid new c.requires.node c.requires.line c.requires.k_in at begun (HasProof-piece I p x c.tree.result.now mid new piece (c.in-Some.ensures.node p) c.tree.ensures c.in_ok-subtree.ensures) in
+    let kid = HasKid-proof I D s y x R line k p.bound ends old mid new c.requires.node c.requires.line c.requires.k_in at begun (HasProof-piece I p x c.tree.result.now mid new piece (c.in-Some.ensures.node c.index-part-i.result) c.tree.ensures c.in_ok-subtree.ensures) in
     subst (λ (z : ℤ). HasKid I D y R line k z ends old new) (sym c.bound.ensures) kid
