@@ -66,7 +66,8 @@ def solve(
         problem = _write(pathlib.Path(room), flow, distance, fixed)
         shown = pathlib.Path(room, "answer.json")
         stop = pathlib.Path(room, "stop")
-        command = [_program("qapplan"), "solve", problem, "--quiet", "--json", shown, "--stop-file", stop]
+        command = [_program("qapplan"), "solve", problem, "--quiet", "--progress", "never"]
+        command += ["--json", shown, "--stop-file", stop]
         if seconds is not None:
             command += ["--seconds", format(decimal.Decimal(seconds).quantize(decimal.Decimal("0.001")), "f")]
         if workers is not None:

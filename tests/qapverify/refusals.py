@@ -9,6 +9,7 @@ THREE_HEAD = "qapproof 1|n 3|cost 21|perm 1 2 3"
 HEAD = "qapproof 1|n 2|cost 11|perm 1 2"
 COSTLIER = "qapproof 1|n 2|cost 17|perm 2 1"
 LEAST = f"{HEAD}|b 6 2 0 3|end"
+PAIRS = "qapproof 2|n 2|cost 12|perm 1 2|p 1"
 
 # An instance, the lines of a proof, and the refusal. The permutation 1 2 costs 11 and the other one 17; the matrix of
 # the root has the
@@ -97,6 +98,9 @@ PROOFS = [
     ("2 0 4 1 0 0 2 7 0", "qapproof 2|n 2|cost 15|perm 1 2|node 1 1|p 1| |x 15|end", "13 BadLine at 7"),
     # A fault of the text comes before every fault of what it says.
     (TWO, f"{HEAD}|b 7 2 0 3|end|x", "15 TrailingText at 7"),
+    (TWO, f"{PAIRS}|0 0|0 0|0 0|0 0|s 1 .. 0 0|end", "16 CostDiffers at 3"),
+    (TWO, f"{PAIRS}|0 0|0 0|0 0|0 0|s 1 .. 0 0|end|x", "15 TrailingText at 12"),
+    (TWO, f"{PAIRS}|4 8|0 0|0 0|0 0|s 1 .+ 0 0|x", "19 DualCount at 11"),
 ]
 
 

@@ -1,9 +1,9 @@
 -- What a child reaches without a text is what its value with the least numbers of its form does.
-use Rattle.std.proofs.Common.{◌≡◌, ℕ, ◌<◌, List, length, ℤ, refl, sym, ◌∙◌, ap, subst, inl, inr, arith}
-use Rattle.std.specs.Prelude.{◌↔◌, ◌+ℤ◌, ◌<ℤ◌, ◌≤ℤ◌}
+use Rattle.std.proofs.Common.{◌≡◌, ℕ, ◌<◌, List, length, ℤ, ◌∙◌, ap, inl, inr, arith}
+use Rattle.std.specs.Prelude.{◌↔◌, ◌+ℤ◌, ◌≤ℤ◌}
 use Rattle.std.specs.Int.{int_max}
 use Rattle.std.proofs.lemmas.Int.{by_lt_z, clamps, ints}
-use Rattle.qap_cost.specs.Instance.{Problem, entry}
+use Rattle.qap_cost.specs.Instance.{Problem}
 use Rattle.qap_cost.specs.Matrix.{total}
 use Rattle.pair_duals.specs.Reduced.{Form, AreLeast, AreLeastOfRows, IsChild, at, count_of}
 use Rattle.proof_tree.specs.Valid.{IsClosed, ReachesBound, Under}

@@ -1,26 +1,25 @@
 -- Children that reach the bound without a text.
 use Rattle.std.proofs.Common.{◌≡◌, ℕ, ◌+◌, ◌<◌, ◌≤◌, ◌^◌, ◌++◌, ◌∷◌, [], List, length, ℤ, pos, unsigned_abs, to_z, of_z, refl, sym, ◌∙◌, ap, subst, inl, inr, arith, append-nil}
-use Rattle.std.specs.Prelude.{Result, Ok, Err, IfErr, OnOk, ◌↔◌, ◌+ℤ◌, ◌*ℤ◌, ◌<ℤ◌, ◌≤ℤ◌}
+use Rattle.std.specs.Prelude.{Bool, true, false, Result, Ok, Err, IfOk, MatchBool, OnOk, ◌↔◌, ◌+ℤ◌, ◌*ℤ◌, ◌<ℤ◌, ◌≤ℤ◌}
 use Rattle.std.specs.Int.{w128}
 use Rattle.std.proofs.lemmas.Int.{by_lt_z, ints}
 use Rattle.qap_cost.specs.Instance.{Problem}
 use Rattle.qap_cost.specs.Placement.{Placement, IsPlacement}
 use Rattle.pair_duals.proofs.Seatings.{facilities_of, same_count}
 use Rattle.pair_duals.specs.PairDuals.{Duals}
-use Rattle.pair_duals.specs.Reduced.{Form, IsChild, IsFormOf, at, count_of}
+use Rattle.pair_duals.specs.Reduced.{Form, IsFormOf, at, count_of}
 use Rattle.qap_proof.specs.Shape.{free_count}
 use Rattle.qap_proof.specs.Cover.{leaf as leaf_at}
 use Rattle.qap_proof.specs.declared.leaf.Leaf.{Leaf}
 use Rattle.qap_proof.specs.declared.side.Side.{Side}
-use Rattle.proof_tree.specs.Leaves.{IsGreatest, IsLeafBelow}
+use Rattle.proof_tree.specs.Leaves.{IsGreatest}
 use Rattle.proof_tree.specs.Tree.{row_of, column_of}
 use Rattle.proof_tree.specs.Valid.{IsClosed, ReachesBound, Under}
 use Rattle.proof_tree.proofs.Multiples.{reaches-greatest}
 use Rattle.proof_tree.proofs.Splits.{IsCellOf-child}
-use Rattle.qap_proof.specs.declared.error.ProofError.{ProofError}
-use Rattle.proof_check.specs.Acceptance.{IsInterruption}
 use Rattle.proof_check.specs.Judge.{IsGreatestBelow, IsJudge, IsParent}
 use Rattle.proof_check.specs.Walk.{PushesLeaf}
+use Rattle.proof_check.proofs.Splits.{IsListed}
 
 -- a number up to 10^37 is read from 128 bits as it is
 pub far_read : (z : ℤ) → unsigned_abs z ≤ 10 ^ 37 → to_z w128 (of_z w128 z) ≡ z
@@ -119,11 +118,6 @@ pub on_ok : {X E : Type 0} (r : Result X E) (P Q : Type 0) → (P → Q) → OnO
 on_ok (Ok x) P Q f h = f h
 on_ok (Err e) P Q f h = h
 
--- the cell of a child among the lists of its split
-pub record IsListed (facilities locations : List ℕ) (h g : ℕ) : Type 0 where
-  pub row : h < length facilities
-  pub column : g < length locations
-
 -- each child of a split has its cell among the lists
 pub cell_listed : (I : Problem) (below : ℤ) (y : Placement) (now : Under) (fs ls : List ℕ) (side : Side) (own c : ℕ) (threshold : ℤ) → IsParent I below y now fs ls side own threshold → c + length y.facilities < y.size → IsListed fs ls (row_of side own c) (column_of side own c)
 cell_listed I below y now fs ls side own c threshold h few =
@@ -142,10 +136,11 @@ free_whole y is = omega (arith, (facilities_of y is).count)
 pub of_cell : (F : ℕ → ℕ → Type 0) (h g r k : ℕ) → h ≡ r → g ≡ k → F h g → F r k
 of_cell F h g r k row column x = subst (λ (i : ℕ). F i k) row (subst (F h) column x)
 
--- what is refused only if it does not reach something is refused only if it does not reach more
-pub refused_same : {T : Type 0} (r : Result T ProofError) (P Q : Type 0) → (Q → P) → IfErr r (λ e. P → IsInterruption e) → IfErr r (λ e. Q → IsInterruption e)
-refused_same (Ok x) P Q f h = tt
-refused_same (Err e) P Q f h = λ q. h (f q)
+-- whether something is reached, said otherwise
+pub value_judged : {E : Type 0} (r : Result Bool E) (A B P Q : Type 0) → (A → B) → (Q → P) → IfOk r (λ b. MatchBool b A (P → ⊥)) → IfOk r (λ b. MatchBool b B (Q → ⊥))
+value_judged (Ok true) A B P Q f g h = f h
+value_judged (Ok false) A B P Q f g h = λ q. h (g q)
+value_judged (Err e) A B P Q f g h = tt
 
 -- a scaled multiple, as it is passed and multiplied
 pub scaled_read : (step : ℕ) (bound below : ℤ) (scale : ℕ) (threshold : ℤ) → IsGreatestBelow step bound below → threshold ≡ pos scale *ℤ to_z w128 (of_z w128 below) → threshold ≡ pos scale *ℤ below

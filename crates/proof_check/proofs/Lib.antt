@@ -7,6 +7,7 @@ pub mod HeadSteps
 pub mod Heads
 pub mod ImageLines
 pub mod ImageRefusals
+pub mod Judging
 pub mod Laws
 pub mod Layers
 pub mod Lines

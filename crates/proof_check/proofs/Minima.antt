@@ -1,7 +1,7 @@
 -- The row and column minima of a form, and its value with them, in 128 bits.
-use Rattle.std.proofs.Common.{◌≡◌, ℕ, ◌+◌, ◌*◌, ◌^◌, ◌≤◌, ◌∷◌, [], Bool, true, false, List, length, map, ℤ, pos, unsigned_abs, to_z, of_z, lit≤, lit<, refl, ◌∙◌, ap, ap₂, arith}
+use Rattle.std.proofs.Common.{◌≡◌, ℕ, ◌*◌, ◌^◌, ◌≤◌, ◌∷◌, [], Bool, true, false, List, map, ℤ, unsigned_abs, to_z, of_z, lit≤, lit<, refl, ◌∙◌, ap, ap₂, arith}
 use Rattle.std.specs.Prelude.{FitsSigned, ◌+ℤ◌, ◌<ℤ◌, ◌≤ℤ◌}
-use Rattle.std.specs.Int.{int_max, w128}
+use Rattle.std.specs.Int.{w128}
 use Rattle.std.proofs.lemmas.Int.{clamps, fits_signed_from_abs, ints, to_z-of_z}
 use Rattle.qap_cost.specs.Matrix.{total}
 use Rattle.qap_cost.specs.Range.{AllWithin}

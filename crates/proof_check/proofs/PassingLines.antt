@@ -1,7 +1,6 @@
 -- The line of a node and the children of a split, in a text that begins with that of a valid tree.
-use Rattle.std.proofs.Common.{◌≡◌, ℕ, ◌+◌, ◌<◌, ◌^◌, ◌++◌, List, [], ◌∷◌, length, get_or, ℤ, pos, refl, sym, ◌∙◌, ap, subst, inl, arith}
-use Rattle.std.specs.Prelude.{codes, true, IfErr, Option, None, Some, MatchOption, Result, Ok, Err}
-use Rattle.std.proofs.lemmas.Int.{ints}
+use Rattle.std.proofs.Common.{◌≡◌, ℕ, zero, suc, ◌+◌, ◌<◌, ◌^◌, ◌++◌, List, [], ◌∷◌, length, get_or, ℤ, refl, sym, ◌∙◌, ap, subst, inl, inr, arith}
+use Rattle.std.specs.Prelude.{codes, true, Option, None, Some, ◌⊎◌}
 use Rattle.std.proofs.lemmas.List.{append_cancel_right}
 use Rattle.qap_cost.specs.Instance.{Problem}
 use Rattle.qap_cost.specs.Placement.{Placement, IsPlacement}
@@ -21,74 +20,74 @@ use Rattle.proof_tree.specs.Text.{marks, split_text}
 use Rattle.proof_tree.specs.Tree.{Children, NodeDuals, PairRows, Tree, child_count, closed, column_of, child_on, grown, image, leaf, no_children, row_of, split}
 use Rattle.proof_tree.specs.Valid.{AllValid, Begins, IsClosed, IsLined, ReachesBound, Under, Valid, under}
 use Rattle.proof_check.specs.Acceptance.{IsInterruption}
-use Rattle.proof_check.specs.Completeness.{HasChildren, HasLined, HasSplit, Leaves, RefusesNode}
+use Rattle.proof_check.specs.Completeness.{BeginsChildren, BeginsLined, BeginsSplit, RefusesNode}
+use Rattle.proof_check.specs.Lines.{AreMarks}
 use Rattle.proof_check.specs.Walk.{own_of}
 use Rattle.proof_check.proofs.SameForms.{AreSame, IsChild-same, IsClosed-same, IsLine-same, one_line}
 use Rattle.proof_check.proofs.Passing.{bare_parts}
 use Rattle.proof_check.proofs.SplitLines.{one_place, one_split}
+use Rattle.proof_check.proofs.TreeWalks.{duals_without, marks_count}
 use Rattle.proof_check.proofs.TreeLines.{bare_line, below_text, number_within, one_numbers, split_line}
 
--- there are as many marks as children
-pub marks_count : (ts : Children) → length (marks ts) ≡ child_count ts
-marks_count no_children = refl
-marks_count (closed rest) = let more = marks_count rest in omega (arith, more)
-marks_count (image m rest) = let more = marks_count rest in omega (arith, more)
-marks_count (grown t rest) = let more = marks_count rest in omega (arith, more)
-
 -- ---- the line
+
+-- each mark of children is one of the two
+pub AreMarks-children : (ts : Children) → AreMarks (marks ts)
+AreMarks-children ts = record { each = each ts }
+  where
+    each : (ts : Children) (i : ℕ) → i < length (marks ts) → (get_or (marks ts) i 0 ≡ 46) ⊎ (get_or (marks ts) i 0 ≡ 43)
+    each no_children i inside = absurd (omega (arith, inside))
+    each (closed rest) zero inside = inl refl
+    each (closed rest) (suc i) inside = each rest i (omega (arith, inside))
+    each (image m rest) zero inside = inr refl
+    each (image m rest) (suc i) inside = each rest i (omega (arith, inside))
+    each (grown t rest) zero inside = inr refl
+    each (grown t rest) (suc i) inside = each rest i (omega (arith, inside))
 
 refused_line : (t : Tree) (y : Placement) (line : List ℕ) (m : ℕ) (e : ProofError) → IsPlacement y → HasShape y true t → line ≡ bare_line t → m ≡ free_count y → RefusesNode m y.size line e → IsInterruption e
 refused_line (leaf d) y line m e is shape line_is count refuses =
     inl (refuses.leaf d.u (subst (λ (k : ℕ). AreLimited k d.u) (sym count) shape.u) line_is)
 refused_line (split d side number ts) y line m e is shape line_is count refuses =
-    refuses.split side number (marks ts) d.u (number_within side y number shape.1 is shape.2) (marks_count ts ∙ shape.3 ∙ sym count) (subst (λ (k : ℕ). AreLimited k d.u) (sym count) shape.0.u) (ap (λ l. l ++ 10 ∷ []) line_is)
+    refuses.split side number (marks ts) d.u (number_within side y number shape.1 is shape.2) (marks_count ts ∙ shape.3 ∙ sym count) (AreMarks-children ts) (subst (λ (k : ℕ). AreLimited k d.u) (sym count) shape.0.u) (ap (λ l. l ++ 10 ∷ []) line_is)
 
 -- the line of a tree is refused only by an interruption
-pub lined_refused : (I : Problem) (step : ℕ) (bound : ℤ) (y : Placement) (now : Under) (line lent : List ℕ) (m n : ℕ) (e : ProofError) (old : Option (List ℕ)) (rest : List ℕ) → IsPlacement y → lent ≡ line → m ≡ free_count y → n ≡ y.size
-    → RefusesNode m n lent e → HasLined I step bound y now line old rest → IsInterruption e
-lined_refused I step bound y now line lent m n e old rest is same count size refuses h =
+pub lined_refused : (P : Tree → Type 0) (y : Placement) (line lent : List ℕ) (m n : ℕ) (e : ProofError) (old : Option (List ℕ)) (rest : List ℕ) → IsPlacement y → lent ≡ line → m ≡ free_count y → n ≡ y.size
+    → RefusesNode m n lent e → BeginsLined y P line old rest → IsInterruption e
+lined_refused P y line lent m n e old rest is same count size refuses h =
     refused_line h.has.tree y lent m e is h.has.shape (same ∙ (bare_parts h.has.tree y true line old rest is h.has.shape h.bare h.has.current).0) count (subst (λ (k : ℕ). RefusesNode m k lent e) size refuses)
 
 -- ---- leaves
 
--- the tree is a leaf with these numbers
-pub record IsLeafHere (I : Problem) (step : ℕ) (bound : ℤ) (y : Placement) (R : Form) (D : Duals) (u : List ℤ) (old : Option (List ℕ)) (rest : List ℕ) : Type 0 where
-  pub known : old ≡ Some rest
-  pub form : Form
-  pub v : List ℤ
-  pub line : Draws R form u v
-  pub reaches : ReachesBound step bound D.scale form.value
+-- duals without pair duals are their numbers
+duals_are : (d : NodeDuals) (u : List ℤ) → d.own ≡ None → d.u ≡ u → d ≡ duals_without u
+duals_are d u bare same = λ i. record { own = bare i; u = same i }
+
+leaf_here : (t : Tree) (P : Tree → Type 0) (y : Placement) (u : List ℤ) (old : Option (List ℕ)) (rest : List ℕ) → AllLimited u → HasShape y true t → own_of t ≡ None
+    → codes "x" ++ numbers_text u ≡ bare_line t → old ≡ Some (below_text t ++ rest) → P t → (old ≡ Some rest) × P (leaf (duals_without u))
+leaf_here (leaf d) P y u old rest limited shape bare line_is known h =
+    let same : d.u ≡ u = one_numbers (codes "x") d.u u shape.u.limited limited (sym line_is) in
+    (known, subst (λ (e : NodeDuals). P (leaf e)) (duals_are d u bare same) h)
+leaf_here (split d Facility number ts) P y u old rest limited shape bare line_is known h = let e : 120 ≡ 115 = ap (λ l. get_or l 0 0) line_is in absurd (omega (arith, e))
+leaf_here (split d Location number ts) P y u old rest limited shape bare line_is known h = let e : 120 ≡ 116 = ap (λ l. get_or l 0 0) line_is in absurd (omega (arith, e))
+
+-- where the line is that of a leaf, the tree is one
+pub lined_leaf : (P : Tree → Type 0) (y : Placement) (line : List ℕ) (u : List ℤ) (old : Option (List ℕ)) (rest : List ℕ) → IsPlacement y → AllLimited u → line ≡ codes "x" ++ numbers_text u
+    → BeginsLined y P line old rest → (old ≡ Some rest) × P (leaf (duals_without u))
+lined_leaf P y line u old rest is limited line_is h =
+    let parts = bare_parts h.has.tree y true line old rest is h.has.shape h.bare h.has.current in
+    leaf_here h.has.tree P y u old rest limited h.has.shape h.bare (sym line_is ∙ parts.0) parts.1 h.has.holds
 
 bare_begins : (I : Problem) (y : Placement) (D : Duals) (R : Form) (d : NodeDuals) (now : Under) → d.own ≡ None → IsLined I y (Some (under D R)) d now → (now.duals ≡ D) × (v : List ℤ) × Draws R now.form d.u v
 bare_begins I y D R d now bare h =
     let b = subst (λ o. Begins I y (Some (under D R)) o now.duals h.start) bare h.begins in
     (b.0, h.v, subst (λ (S : Form). Draws S now.form d.u h.v) b.1 h.line)
 
-leaf_here : (t : Tree) (I : Problem) (step : ℕ) (bound : ℤ) (y : Placement) (D : Duals) (R : Form) (u : List ℤ) (old : Option (List ℕ)) (rest : List ℕ) → AllLimited u → HasShape y true t → own_of t ≡ None
-    → codes "x" ++ numbers_text u ≡ bare_line t → old ≡ Some (below_text t ++ rest) → Valid I step bound y (Some (under D R)) t → IsLeafHere I step bound y R D u old rest
-leaf_here (leaf d) I step bound y D R u old rest limited shape bare line_is known h =
-    let same : d.u ≡ u = one_numbers (codes "x") d.u u shape.u.limited limited (sym line_is) in
-    let b = bare_begins I y D R d h.0 bare h.1 in
-    record {
-      known = known;
-      form = h.0.form;
-      v = b.1;
-      line = subst (λ (l : List ℤ). Draws R h.0.form l b.1) same b.2;
-      reaches = subst (λ (E : Duals). ReachesBound step bound E.scale h.0.form.value) b.0 h.2;
-    }
-leaf_here (split d Facility number ts) I step bound y D R u old rest limited shape bare line_is known h = let e : 120 ≡ 115 = ap (λ l. get_or l 0 0) line_is in absurd (omega (arith, e))
-leaf_here (split d Location number ts) I step bound y D R u old rest limited shape bare line_is known h = let e : 120 ≡ 116 = ap (λ l. get_or l 0 0) line_is in absurd (omega (arith, e))
-
--- where the line is that of a leaf, the tree is one
-pub lined_leaf : (I : Problem) (step : ℕ) (bound : ℤ) (y : Placement) (D : Duals) (R : Form) (line : List ℕ) (u : List ℤ) (old : Option (List ℕ)) (rest : List ℕ) → IsPlacement y → AllLimited u → line ≡ codes "x" ++ numbers_text u
-    → HasLined I step bound y (under D R) line old rest → IsLeafHere I step bound y R D u old rest
-lined_leaf I step bound y D R line u old rest is limited line_is h =
-    let parts = bare_parts h.has.tree y true line old rest is h.has.shape h.bare h.has.current in
-    leaf_here h.has.tree I step bound y D R u old rest limited h.has.shape h.bare (sym line_is ∙ parts.0) parts.1 h.has.valid
-
--- such a leaf reaches the bound
-pub leaf_reaches : (I : Problem) (step : ℕ) (bound : ℤ) (y : Placement) (D : Duals) (R S : Form) (u v : List ℤ) (old : Option (List ℕ)) (rest : List ℕ) → Draws R S u v → IsLeafHere I step bound y R D u old rest → ReachesBound step bound D.scale S.value
-leaf_reaches I step bound y D R S u v old rest drawn h = subst (ReachesBound step bound D.scale) (one_line R h.form S u h.v v h.line drawn).value h.reaches
+-- a leaf that is valid reaches the bound
+pub leaf_reaches : (I : Problem) (step : ℕ) (bound : ℤ) (y : Placement) (D : Duals) (R S : Form) (u v : List ℤ) → Draws R S u v → Valid I step bound y (Some (under D R)) (leaf (duals_without u)) → ReachesBound step bound D.scale S.value
+leaf_reaches I step bound y D R S u v drawn h =
+    let b = bare_begins I y D R (duals_without u) h.0 refl h.1 in
+    let reaches = subst (λ (E : Duals). ReachesBound step bound E.scale h.0.form.value) b.0 h.2 in
+    subst (ReachesBound step bound D.scale) (one_line R h.0.form S u b.1 v b.2 drawn).value reaches
 
 -- ---- children under forms that are the same
 
@@ -127,45 +126,47 @@ AllValid-same (grown t rest) I step bound y now D S side own c is free few count
 
 -- ---- splits
 
-split_here : (t : Tree) (I : Problem) (step : ℕ) (bound : ℤ) (y : Placement) (D : Duals) (R S : Form) (side : Side) (number : ℕ) (marked : List ℕ) (u v : List ℤ) (old : Option (List ℕ)) (rest : List ℕ) → IsPlacement y → count_of R ≡ free_count y → number < 10 ^ 20 → length marked ≡ free_count y
-    → AllLimited u → Draws R S u v → HasShape y true t → own_of t ≡ None → split_line side number marked u ≡ bare_line t → old ≡ Some (below_text t ++ rest) → Valid I step bound y (Some (under D R)) t → HasSplit I step bound y (under D S) side number marked old rest
-split_here (leaf d) I step bound y D R S Facility number marked u v old rest is count small long limited drawn shape bare line_is known h = let e : 115 ≡ 120 = ap (λ l. get_or l 0 0) line_is in absurd (omega (arith, e))
-split_here (leaf d) I step bound y D R S Location number marked u v old rest is count small long limited drawn shape bare line_is known h = let e : 116 ≡ 120 = ap (λ l. get_or l 0 0) line_is in absurd (omega (arith, e))
-split_here (split d side' number' ts) I step bound y D R S side number marked u v old rest is count small long limited drawn shape bare line_is known h =
+split_here : (t : Tree) (P : Tree → Type 0) (Q : ℕ → Children → Type 0) (y : Placement) (side : Side) (number : ℕ) (marked : List ℕ) (u : List ℤ) (old : Option (List ℕ)) (rest : List ℕ) → IsPlacement y → number < 10 ^ 20 → length marked ≡ free_count y → AllLimited u
+    → HasShape y true t → own_of t ≡ None → split_line side number marked u ≡ bare_line t → old ≡ Some (below_text t ++ rest) → P t
+    → ((own : ℕ) (ts : Children) → IsPlaceOf (own_on side y) number own → P (split (duals_without u) side number ts) → Q own ts) → BeginsSplit y side number Q marked old rest
+split_here (leaf d) P Q y Facility number marked u old rest is small long limited shape bare line_is known h f = let e : 115 ≡ 120 = ap (λ l. get_or l 0 0) line_is in absurd (omega (arith, e))
+split_here (leaf d) P Q y Location number marked u old rest is small long limited shape bare line_is known h f = let e : 116 ≡ 120 = ap (λ l. get_or l 0 0) line_is in absurd (omega (arith, e))
+split_here (split d side' number' ts) P Q y side number marked u old rest is small long limited shape bare line_is known h f =
     let inside = number_within side' y number' shape.1 is shape.2 in
     let one = one_split side side' number number' marked (marks ts) u d.u small (omega (arith, inside, is.small)) (long ∙ sym shape.3 ∙ sym (marks_count ts)) limited shape.0.u.limited line_is in
-    let b = bare_begins I y D R d h.0 bare h.2 in
-    let drawn_is : Draws R S d.u v = subst (λ (l : List ℤ). Draws R S l v) one.duals drawn in
-    let same : AreSame h.0.form S = one_line R h.0.form S d.u b.1 v b.2 drawn_is in
-    let rows : count_of h.0.form ≡ free_count y = ap length b.2.rows ∙ count in
-    let valid = AllValid-same ts I step bound y h.0 D S side' h.1 0 is h.3.within (omega (arith, h.4)) rows b.0 same h.5 in
-    let there : HasSplit I step bound y (under D S) side' number' (marks ts) old rest = record {
-      own = h.1;
-      place = h.3;
-      below = record {
-        children = ts;
-        known = known;
-        marks_are = refl;
-        shapes = subst (λ (own : ℕ). AllHaveShape y side' own 0 ts) (one_place side' y number' shape.1 h.1 is shape.2 h.3) shape.4;
-        valid = valid;
-      };
-    } in
-    subst (λ (x : Side). HasSplit I step bound y (under D S) x number marked old rest) (sym one.sides)
-    (subst (λ (k : ℕ). HasSplit I step bound y (under D S) side' k marked old rest) (sym one.numbers)
-    (subst (λ (l : List ℕ). HasSplit I step bound y (under D S) side' number' l old rest) (sym one.marks) there))
+    let place = subst (λ (x : Side). IsPlaceOf (own_on x y) number shape.1) (sym one.sides) (subst (λ (k : ℕ). IsPlaceOf (own_on side' y) k shape.1) (sym one.numbers) shape.2) in
+    let shapes = subst (λ (x : Side). AllHaveShape y x shape.1 0 ts) (sym one.sides) shape.4 in
+    let tree = subst (λ (x : Side). P (split (duals_without u) x number ts)) (sym one.sides)
+    (subst (λ (k : ℕ). P (split (duals_without u) side' k ts)) (sym one.numbers)
+    (subst (λ (e : NodeDuals). P (split e side' number' ts)) (duals_are d u bare (sym one.duals)) h)) in
+    record {
+      own = shape.1;
+      place = place;
+      below = record { children = ts; known = known; marks_are = sym one.marks; shapes = shapes; holds = f shape.1 ts place tree };
+    }
 
 -- where the line is that of a split, the tree is one
-pub lined_split : (I : Problem) (step : ℕ) (bound : ℤ) (y : Placement) (D : Duals) (R S : Form) (line : List ℕ) (side : Side) (number : ℕ) (marked : List ℕ) (u v : List ℤ) (old : Option (List ℕ)) (rest : List ℕ) → IsPlacement y → count_of R ≡ free_count y → number < 10 ^ 20 → length marked ≡ free_count y
-    → AllLimited u → Draws R S u v → line ++ 10 ∷ [] ≡ split_text side number marked u → HasLined I step bound y (under D R) line old rest → HasSplit I step bound y (under D S) side number marked old rest
-lined_split I step bound y D R S line side number marked u v old rest is count small long limited drawn line_is h =
+pub lined_split : (P : Tree → Type 0) (Q : ℕ → Children → Type 0) (y : Placement) (line : List ℕ) (side : Side) (number : ℕ) (marked : List ℕ) (u : List ℤ) (old : Option (List ℕ)) (rest : List ℕ) → IsPlacement y → number < 10 ^ 20 → length marked ≡ free_count y → AllLimited u → line ++ 10 ∷ [] ≡ split_text side number marked u
+    → ((own : ℕ) (ts : Children) → IsPlaceOf (own_on side y) number own → P (split (duals_without u) side number ts) → Q own ts) → BeginsLined y P line old rest → BeginsSplit y side number Q marked old rest
+lined_split P Q y line side number marked u old rest is small long limited line_is f h =
     let parts = bare_parts h.has.tree y true line old rest is h.has.shape h.bare h.has.current in
-    split_here h.has.tree I step bound y D R S side number marked u v old rest is count small long limited drawn h.has.shape h.bare (sym (append_cancel_right line (split_line side number marked u) (10 ∷ []) line_is) ∙ parts.0) parts.1 h.has.valid
+    split_here h.has.tree P Q y side number marked u old rest is small long limited h.has.shape h.bare (sym (append_cancel_right line (split_line side number marked u) (10 ∷ []) line_is) ∙ parts.0) parts.1 h.has.holds f
+
+-- the children of a valid split are valid under the form after its line
+pub split_valid : (I : Problem) (step : ℕ) (bound : ℤ) (y : Placement) (D : Duals) (R S : Form) (side : Side) (number : ℕ) (u v : List ℤ) (own : ℕ) (ts : Children) → IsPlacement y → count_of R ≡ free_count y → Draws R S u v → IsPlaceOf (own_on side y) number own
+    → Valid I step bound y (Some (under D R)) (split (duals_without u) side number ts) → AllValid I step bound y (under D S) side own 0 ts
+split_valid I step bound y D R S side number u v own ts is count drawn at h =
+    let b = bare_begins I y D R (duals_without u) h.0 refl h.2 in
+    let same : AreSame h.0.form S = one_line R h.0.form S u b.1 v b.2 drawn in
+    let rows : count_of h.0.form ≡ free_count y = ap length b.2.rows ∙ count in
+    let valid = AllValid-same ts I step bound y h.0 D S side h.1 0 is h.3.within (omega (arith, h.4)) rows b.0 same h.5 in
+    subst (λ (k : ℕ). AllValid I step bound y (under D S) side k 0 ts) (one_place side y number h.1 own is h.3 at) valid
 
 -- the children are those on the free one that was found
-pub split_children : (I : Problem) (step : ℕ) (bound : ℤ) (y : Placement) (now : Under) (side : Side) (number own : ℕ) (marked : List ℕ) (old : Option (List ℕ)) (rest : List ℕ) → IsPlacement y → IsPlaceOf (own_on side y) number own
-    → HasSplit I step bound y now side number marked old rest → HasChildren I step bound y now side own 0 marked old rest
-split_children I step bound y now side number own marked old rest is at h =
-    subst (λ (k : ℕ). HasChildren I step bound y now side k 0 marked old rest) (one_place side y number h.own own is h.place at) h.below
+pub split_children : (P : ℕ → Children → Type 0) (y : Placement) (side : Side) (number own : ℕ) (marked : List ℕ) (old : Option (List ℕ)) (rest : List ℕ) → IsPlacement y → IsPlaceOf (own_on side y) number own
+    → BeginsSplit y side number P marked old rest → BeginsChildren y side own 0 (P own) marked old rest
+split_children P y side number own marked old rest is at h =
+    subst (λ (k : ℕ). BeginsChildren y side k 0 (P k) marked old rest) (one_place side y number h.own own is h.place at) h.below
 
 lined_same : (I : Problem) (y : Placement) (D : Duals) (R S : Form) (d : NodeDuals) (now : Under) → AreSame R S → IsLined I y (Some (under D R)) d now → IsLined I y (Some (under D S)) d now
 lined_same I y D R S d now same h = begun d.own h.start h.begins h.line
@@ -178,13 +179,3 @@ lined_same I y D R S d now same h = begun d.own h.start h.begins h.line
 pub Valid-same : (t : Tree) (I : Problem) (step : ℕ) (bound : ℤ) (y : Placement) (D : Duals) (R S : Form) → AreSame R S → Valid I step bound y (Some (under D R)) t → Valid I step bound y (Some (under D S)) t
 Valid-same (leaf d) I step bound y D R S same h = (h.0, lined_same I y D R S d h.0 same h.1, h.2)
 Valid-same (split d side number ts) I step bound y D R S same h = (h.0, h.1, lined_same I y D R S d h.0 same h.2, h.3, h.4, h.5)
-
--- a place that was found
-pub place_found : (number own : ℕ) (r : Option ℕ) (list free : List ℕ) → r ≡ Some own → MatchOption r ((place : ℕ) → IsPlaceOf list number place → ⊥) (IsPlaceOf list number) → list ≡ free → IsPlaceOf free number own
-place_found number own r list free found h same =
-    subst (λ (l : List ℕ). IsPlaceOf l number own) same (subst (λ (o : Option ℕ). MatchOption o ((place : ℕ) → IsPlaceOf list number place → ⊥) (IsPlaceOf list number)) found h)
-
--- where what has the property stays as it was, and is refused only if it does not reach something that it reaches
-pub checked : {T : Type 0} (P : List ℕ → Type 0) (old : Option (List ℕ)) (r : Result T ProofError) → ((rest : List ℕ) → P rest → old ≡ Some rest) → {Q : Type 0} → ((rest : List ℕ) → P rest → Q) → IfErr r (λ e. Q → IsInterruption e) → Leaves P old r
-checked P old (Ok x) known reaches refused = known
-checked P old (Err e) known reaches refused = λ rest h. refused (reaches rest h)

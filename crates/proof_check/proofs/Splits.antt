@@ -5,6 +5,8 @@ use Rattle.pair_duals.proofs.Seatings.{facilities_of, locations_of}
 use Rattle.qap_proof.specs.Cell.{own_on}
 use Rattle.qap_proof.specs.declared.side.Side.{Side}
 use Rattle.qap_proof.specs.declared.side.Side.TheVariants.{Facility, Location}
+use Rattle.proof_tree.proofs.Splits.{IsCellOf-child}
+use Rattle.proof_tree.specs.Tree.{column_of, row_of}
 use Rattle.proof_check.specs.Image.{IsSplitOf}
 
 -- there is a child for each free one
@@ -36,3 +38,14 @@ pub own_in_columns : (y : Placement) (facilities locations : List ℕ) (side : S
 own_in_columns y facilities locations side own is split =
     let inside = subst (λ (s : Side). own < length (own_on s y)) is split.own_in in
     omega (arith, ap length split.columns, inside)
+
+-- the cell of a child among the lists of its split
+pub record IsListed (facilities locations : List ℕ) (h g : ℕ) : Type 0 where
+  pub row : h < length facilities
+  pub column : g < length locations
+
+-- each child of a split has its cell among the lists
+pub split_cell : (y : Placement) (facilities locations : List ℕ) (side : Side) (own c : ℕ) → IsSplitOf y facilities locations side own → c + length y.facilities < y.size → IsListed facilities locations (row_of side own c) (column_of side own c)
+split_cell y facilities locations side own c h few =
+    let cell = IsCellOf-child side y own c h.placement h.own_in few in
+    record { row = omega (arith, cell.row, ap length h.rows); column = omega (arith, cell.column, ap length h.columns) }

@@ -1,6 +1,8 @@
 pub mod Acceptance
 pub mod Completeness
+pub mod Fault
 pub mod Image
+pub mod ImageLine
 pub mod Judge
 pub mod Lines
 pub mod Rows

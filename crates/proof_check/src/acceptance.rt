@@ -1,18 +1,21 @@
 //! Checks texts of proofs with pair duals.
 
-ghost use Rattle.std.specs.Prelude.{◌≡◌, ◌<◌, ◌≤ℤ◌, if◌then◌else◌, ℕ, List, length, codes, IfErr, IfOk, MatchResult, OnErr, OnOk};
+ghost use Rattle.std.specs.Prelude.{◌≡◌, ◌<◌, ◌≤ℤ◌, if◌then◌else◌, ℕ, List, length, codes, IfErr, IfOk, MatchOption, MatchResult, OnOk, Some};
 ghost use Rattle.qap_cost.specs.Objective.{cost_of};
 ghost use Rattle.qap_cost.specs.Range.{IsLimited};
 ghost use Rattle.qap_lines.specs.Bound.{IsBoundFor};
 ghost use Rattle.pair_duals.specs.CostStep.{step_of};
 ghost use Rattle.proof_tree.specs.Claim.{pair_claim};
 ghost use Rattle.proof_tree.specs.Tree.{Tree};
-ghost use Rattle.proof_check.specs.Acceptance.{IsPairVerdictOf, ReadsLeaves, ReadsVerdict, RefusesNoProof};
+ghost use Rattle.proof_check.specs.Acceptance.{IsInterruption, IsPairVerdictOf, ReadsLeaves, ReadsVerdict, RefusesNoProof};
+ghost use Rattle.proof_check.specs.Completeness.{EndsWith};
+ghost use Rattle.proof_check.specs.Fault.{IsReadFault, RefusesPairs, content, kind_of};
 ghost use Rattle.proof_check.specs.Judge.{IsGreatestBelow};
 
 use crate::cursor::{Cursor, advance, end};
-use crate::head::{Head, read_head};
+use crate::head::read_head;
 use crate::leaf::Judge;
+use crate::skimming::skim_root;
 use crate::walking::{Walk, walk_root};
 use qap_cost::{Instance, Partial, Perm, cost};
 use qap_proof::{Leaf, ProofError, Verdict};
@@ -33,7 +36,9 @@ pub struct Checked {
 /// for it: all that the reader has. Of the tree it stores only the forms of the nodes above the current line, and the
 /// pair duals in force there.
 ///
-/// `step` is the instance's cost step. Otherwise the first fault that was found is reported, by its line.
+/// `step` is the instance's cost step. Otherwise a fault is reported, by its line: the first fault of grammar, which
+/// makes the text that of no proof; or if there is none, the first fault of content that was found. After that one, the
+/// text is read for its grammar alone.
 pub fn accept<R: BufRead>(
     alloc: Global,
     instance: &Instance,
@@ -43,6 +48,7 @@ pub fn accept<R: BufRead>(
     requires step { step ≡ step_of instance.now }
     ensures verdict { IfOk result (ReadsVerdict instance.now (R.remaining reader.old)) }
     ensures refused { IfErr result (RefusesNoProof instance.now (R.remaining reader.old)) }
+    ensures fault { IfErr result (RefusesPairs instance.now (R.remaining reader.old)) }
 {
     let checked = check(alloc, instance, step, reader, false)?;
     Ok(verdict_of(&checked.root, checked.bound, checked.cost))
@@ -58,6 +64,7 @@ pub fn accept_stated<R: BufRead>(
     requires step { step ≡ step_of instance.now }
     ensures stated { IfOk result (λ c. ReadsLeaves instance.now (R.remaining reader.old) c.root c.cost c.bound c.bound c.leaves.items) }
     ensures refused { IfErr result (RefusesNoProof instance.now (R.remaining reader.old)) }
+    ensures fault { IfErr result (RefusesPairs instance.now (R.remaining reader.old)) }
 {
     check(alloc, instance, step, reader, false)
 }
@@ -72,6 +79,7 @@ pub fn accept_leaves<R: BufRead>(
     requires step { step ≡ step_of instance.now }
     ensures leaves { IfOk result (λ c. ReadsLeaves instance.now (R.remaining reader.old) c.root c.cost c.bound c.cost c.leaves.items) }
     ensures refused { IfErr result (RefusesNoProof instance.now (R.remaining reader.old)) }
+    ensures fault { IfErr result (RefusesPairs instance.now (R.remaining reader.old)) }
 {
     check(alloc, instance, step, reader, true)
 }
@@ -86,11 +94,15 @@ fn check<R: BufRead>(
 ) -> Result<Checked, ProofError>
     requires step { step ≡ step_of instance.now }
     ensures leaves { IfOk result (λ c. ReadsLeaves instance.now (R.remaining reader.old) c.root c.cost c.bound (if with_leaves then c.cost else c.bound) c.leaves.items) }
-    ensures refused { IfErr result (RefusesNoProof instance.now (R.remaining reader.old)) }
+    ensures fault { IfErr result (RefusesPairs instance.now (R.remaining reader.old)) }
 {
     let mut cursor = Cursor::new(alloc);
     let head = read_head(alloc, reader, &mut cursor)?;
-    check_permutation(instance, &head.perm, head.cost)?;
+    if let Some(fault) = perm_fault(instance, &head.perm, head.cost) {
+        skim_root(alloc, reader, &head.root, &mut cursor)?;
+        read_end(reader, &mut cursor)?;
+        return Err(fault);
+    }
     let limit = limit(head.cost, head.bound, with_leaves);
     let enough = below(limit, step);
     let below = below(head.bound, step);
@@ -103,20 +115,19 @@ fn check<R: BufRead>(
         cost: limit,
         enough,
     };
-    let mut walk = Walk {
-        cursor,
-        leaves: Vec::new(alloc),
-    };
-    walk_root(reader, &judge, &head.root, &mut walk)?;
-    advance(reader, &mut walk.cursor)?;
-    check_end(&walk.cursor.line, walk.cursor.number)?;
-    end(reader, &mut walk.cursor)?;
-    Ok(Checked {
-        root: head.root,
-        cost: head.cost,
-        bound: head.bound,
-        leaves: walk.leaves,
-    })
+    let leaves = Vec::new(alloc);
+    let mut walk = Walk { cursor, leaves };
+    let fault = walk_root(reader, &judge, &head.root, &mut walk)?;
+    read_end(reader, &mut walk.cursor)?;
+    match fault {
+        Some(fault) => Err(fault),
+        None => Ok(Checked {
+            root: head.root,
+            cost: head.cost,
+            bound: head.bound,
+            leaves: walk.leaves,
+        }),
+    }
 }
 
 /// Below which values leaves are listed: the cost, or if none are requested, the bound.
@@ -141,24 +152,37 @@ fn below(bound: i128, step: u64) -> i128
     last - last.rem_euclid(step)
 }
 
-/// Makes sure that the permutation is of the instance's size and has this cost.
-fn check_permutation(instance: &Instance, perm: &Perm, stated: i128) -> Result<(), ProofError>
-    ensures size { OnOk result (length perm.now ≡ instance.now.size) }
-    ensures cost { OnOk result (cost_of instance.now perm.now ≡ stated) }
-    ensures refused { OnErr result (length perm.now ≡ instance.now.size → cost_of instance.now perm.now ≡ stated → ⊥) }
+/// What keeps the permutation from being of the instance's size and having this cost, if something does.
+fn perm_fault(instance: &Instance, perm: &Perm, stated: i128) -> Option<ProofError>
+    ensures { MatchOption result
+        ((length perm.now ≡ instance.now.size) × (cost_of instance.now perm.now ≡ stated))
+        (λ e. (kind_of e ≡ content) × (length perm.now ≡ instance.now.size → cost_of instance.now perm.now ≡ stated → ⊥)) }
 {
     if perm.len() != instance.size() {
-        return Err(ProofError::SizeDiffers(2));
+        return Some(ProofError::SizeDiffers(2));
     }
     if cost(instance, perm) != stated {
-        return Err(ProofError::CostDiffers(3));
+        return Some(ProofError::CostDiffers(3));
     }
+    None
+}
+
+/// Reads the last line, and makes sure that nothing follows it.
+fn read_end<R: BufRead>(reader: &mut R, cursor: &mut Cursor) -> Result<(), ProofError>
+    ensures read { OnOk result (EndsWith (R.remaining reader.old)) }
+    ensures refused { IfErr result (λ e. R.remaining reader.old ≡ Some (codes "end\n") → IsInterruption e) }
+    ensures class { IfErr result IsReadFault }
+{
+    advance(reader, cursor)?;
+    check_end(&cursor.line, cursor.number)?;
+    end(reader, cursor)?;
     Ok(())
 }
 
 /// Makes sure that a line is the last one of a proof.
 fn check_end(line: &[u8], number: u64) -> Result<(), ProofError>
-    ensures { MatchResult result (λ _. line.now ≡ codes "end") (λ _. line.now ≡ codes "end" → ⊥) }
+    ensures judged { MatchResult result (λ _. line.now ≡ codes "end") (λ _. line.now ≡ codes "end" → ⊥) }
+    ensures class { IfErr result IsReadFault }
 {
     if line == b"end".as_slice() {
         Ok(())

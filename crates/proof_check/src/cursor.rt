@@ -5,6 +5,7 @@ ghost use Rattle.std.specs.Io.KnownBytes.{Consumes, IsAtEnd};
 ghost use Rattle.qap_lines.specs.Line.{HasNoLine};
 ghost use Rattle.proof_check.specs.Acceptance.{IsInterruption};
 ghost use Rattle.proof_check.specs.Completeness.{RefusesLine};
+ghost use Rattle.proof_check.specs.Fault.{IsReadFault};
 
 use qap_proof::ProofError;
 use std::alloc::Global;
@@ -32,6 +33,7 @@ pub(crate) fn advance<R: BufRead>(reader: &mut R, cursor: &mut Cursor) -> Result
     ensures read { OnOk result (Consumes (R.remaining reader.old) (R.remaining reader.new) (cursor.new.line.items ++ 10 ∷ [])) }
     ensures whole { OnOk result (HasNoLine cursor.new.line.items) }
     ensures refused { IfErr result (RefusesLine (R.remaining reader.old)) }
+    ensures class { IfErr result IsReadFault }
 {
     cursor.line.clear();
     cursor.number = cursor.number.saturating_add(1);
@@ -45,6 +47,7 @@ fn read_line<R: BufRead>(reader: &mut R, line: &mut Vec<u8>, number: u64) -> Res
     ensures read { OnOk result (Consumes (R.remaining reader.old) (R.remaining reader.new) (line.new.items ++ 10 ∷ [])) }
     ensures whole { OnOk result (HasNoLine line.new.items) }
     ensures refused { IfErr result (RefusesLine (R.remaining reader.old)) }
+    ensures class { IfErr result IsReadFault }
 {
     if let Err(error) = reader.read_until(b'\n', line) {
         return Err(told(&error));
@@ -59,6 +62,7 @@ fn read_line<R: BufRead>(reader: &mut R, line: &mut Vec<u8>, number: u64) -> Res
 pub(crate) fn end<R: BufRead>(reader: &mut R, cursor: &mut Cursor) -> Result<(), ProofError>
     ensures end { OnOk result (IsAtEnd (R.remaining reader.old)) }
     ensures refused { IfErr result (λ e. R.remaining reader.old ≡ Some [] → IsInterruption e) }
+    ensures class { IfErr result IsReadFault }
 {
     cursor.line.clear();
     let number = cursor.number.saturating_add(1);
@@ -70,6 +74,7 @@ fn nothing<R: BufRead>(reader: &mut R, line: &mut Vec<u8>, number: u64) -> Resul
     requires { line.old.items ≡ [] }
     ensures end { OnOk result (IsAtEnd (R.remaining reader.old)) }
     ensures refused { IfErr result (λ e. R.remaining reader.old ≡ Some [] → IsInterruption e) }
+    ensures class { IfErr result IsReadFault }
 {
     match reader.read_until(b'\n', line) {
         Ok(0) => Ok(()),

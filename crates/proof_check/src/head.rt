@@ -16,6 +16,7 @@ ghost use Rattle.proof_tree.specs.Text.{tree_text};
 ghost use Rattle.proof_tree.specs.Tree.{Tree};
 ghost use Rattle.proof_check.specs.Acceptance.{IsInterruption, ReadsHead};
 ghost use Rattle.proof_check.specs.Completeness.{HasBound, HasHead, HasRoot, IsCurrent, IsHeadOf, RefusesNamed};
+ghost use Rattle.proof_check.specs.Fault.{IsReadFault};
 ghost use Rattle.proof_check.specs.Walk.{ReadsBehind};
 
 use crate::cursor::{Cursor, advance};
@@ -45,6 +46,7 @@ pub(crate) fn read_head<R: BufRead>(
         (λ h. (x : Placement) (c g : ℤ) (p : List ℕ) (t : Tree) (rest : List ℕ) → HasHead x c g p t (R.remaining reader.old) rest
         → IsHeadOf x c g p h.root h.cost h.bound h.perm × IsCurrent cursor.new.line.items (R.remaining reader.new) (tree_text t ++ rest))
         (λ e. (x : Placement) (c g : ℤ) (p : List ℕ) (t : Tree) (rest : List ℕ) → HasHead x c g p t (R.remaining reader.old) rest → IsInterruption e) }
+    ensures class { IfErr result IsReadFault }
 {
     read_header(reader, cursor)?;
     let n = read_size(reader, cursor)?;
@@ -65,6 +67,7 @@ pub(crate) fn read_head<R: BufRead>(
 fn read_header<R: BufRead>(reader: &mut R, cursor: &mut Cursor) -> Result<(), ProofError>
     ensures refused { IfErr result (RefusesNamed (codes "qapproof") (pos 2 ∷ []) (R.remaining reader.old)) }
     ensures read { OnOk result (Consumes (R.remaining reader.old) (R.remaining reader.new) (line_text (codes "qapproof") (pos 2 ∷ []))) }
+    ensures class { IfErr result IsReadFault }
 {
     advance(reader, cursor)?;
     judge_header(&cursor.line)?;
@@ -72,7 +75,8 @@ fn read_header<R: BufRead>(reader: &mut R, cursor: &mut Cursor) -> Result<(), Pr
 }
 
 fn judge_header(line: &[u8]) -> Result<(), ProofError>
-    ensures { MatchResult result (λ _. IsNamed (codes "qapproof") line.now (pos 2 ∷ [])) (λ _. IsNamed (codes "qapproof") line.now (pos 2 ∷ []) → ⊥) }
+    ensures judged { MatchResult result (λ _. IsNamed (codes "qapproof") line.now (pos 2 ∷ [])) (λ _. IsNamed (codes "qapproof") line.now (pos 2 ∷ []) → ⊥) }
+    ensures class { IfErr result IsReadFault }
 {
     match one_number(b"qapproof", line) {
         Some(2) => Ok(()),
@@ -85,6 +89,7 @@ fn judge_header(line: &[u8]) -> Result<(), ProofError>
 fn read_size<R: BufRead>(reader: &mut R, cursor: &mut Cursor) -> Result<usize, ProofError>
     ensures refused { IfErr result (λ e. (n : ℕ) → 0 < n → n ≤ 256 → RefusesNamed (codes "n") (pos n ∷ []) (R.remaining reader.old) e) }
     ensures read { IfOk result (λ n. (0 < n) × (n ≤ 256) × Consumes (R.remaining reader.old) (R.remaining reader.new) (line_text (codes "n") (pos n ∷ []))) }
+    ensures class { IfErr result IsReadFault }
 {
     advance(reader, cursor)?;
     let size = judge_size(&cursor.line, cursor.number)?;
@@ -92,9 +97,10 @@ fn read_size<R: BufRead>(reader: &mut R, cursor: &mut Cursor) -> Result<usize, P
 }
 
 fn judge_size(line: &[u8], number: u64) -> Result<usize, ProofError>
-    ensures { MatchResult result
+    ensures judged { MatchResult result
         (λ n. (0 < n) × (n ≤ 256) × IsNamed (codes "n") line.now (pos n ∷ []))
         (λ _. (n : ℕ) → 0 < n → n ≤ 256 → IsNamed (codes "n") line.now (pos n ∷ []) → ⊥) }
+    ensures class { IfErr result IsReadFault }
 {
     match one_number(b"n", line) {
         Some(size) if size > 0 && size <= MAX_SIZE as i128 => Ok(size as usize),
@@ -106,6 +112,7 @@ fn judge_size(line: &[u8], number: u64) -> Result<usize, ProofError>
 fn read_cost<R: BufRead>(reader: &mut R, cursor: &mut Cursor) -> Result<i128, ProofError>
     ensures refused { IfErr result (λ e. (c : ℤ) → IsLimited c → RefusesNamed (codes "cost") (c ∷ []) (R.remaining reader.old) e) }
     ensures read { IfOk result (λ c. IsLimited c × Consumes (R.remaining reader.old) (R.remaining reader.new) (line_text (codes "cost") (c ∷ []))) }
+    ensures class { IfErr result IsReadFault }
 {
     advance(reader, cursor)?;
     let cost = judge_cost(&cursor.line, cursor.number)?;
@@ -113,9 +120,10 @@ fn read_cost<R: BufRead>(reader: &mut R, cursor: &mut Cursor) -> Result<i128, Pr
 }
 
 fn judge_cost(line: &[u8], number: u64) -> Result<i128, ProofError>
-    ensures { MatchResult result
+    ensures judged { MatchResult result
         (λ c. IsLimited c × IsNamed (codes "cost") line.now (c ∷ []))
         (λ _. (c : ℤ) → IsLimited c → IsNamed (codes "cost") line.now (c ∷ []) → ⊥) }
+    ensures class { IfErr result IsReadFault }
 {
     match one_number(b"cost", line) {
         Some(cost) if cost.unsigned_abs() <= MAX_VALUE => Ok(cost),
@@ -133,6 +141,7 @@ fn read_permutation<R: BufRead>(
     requires small { n ≤ 256 }
     ensures refused { IfErr result (λ e. (p : List ℕ) → IsPerm p → length p ≡ n → RefusesNamed (codes "perm") (counted_from_one p) (R.remaining reader.old) e) }
     ensures read { IfOk result (λ p. IsPerm p × (length p ≡ n) × Consumes (R.remaining reader.old) (R.remaining reader.new) (line_text (codes "perm") (counted_from_one p))) }
+    ensures class { IfErr result IsReadFault }
 {
     advance(reader, cursor)?;
     let perm = judge_permutation(alloc, &cursor.line, n, cursor.number)?;
@@ -143,6 +152,7 @@ fn judge_permutation(alloc: Global, line: &[u8], n: usize, number: u64) -> Resul
     requires small { n ≤ 256 }
     ensures found { IfOk result (λ p. IsPerm p × (length p ≡ n) × IsNamed (codes "perm") line.now (counted_from_one p)) }
     ensures refused { IfErr result (λ e. (p : List ℕ) → IsPerm p → length p ≡ n → IsNamed (codes "perm") line.now (counted_from_one p) → IsInterruption e) }
+    ensures class { IfErr result IsReadFault }
 {
     let mut locations = Vec::new(alloc);
     let Some(numbers) = read_numbers(b"perm", line, n, &mut locations)? else {
@@ -170,6 +180,7 @@ fn read_root<R: BufRead>(
         (λ x. (y : Placement) (text : List ℕ) → HasRoot n y cursor.old.line.items (R.remaining reader.old) text → (x ≡ y) × IsCurrent cursor.new.line.items (R.remaining reader.new) text)
         (λ e. (y : Placement) (text : List ℕ) → HasRoot n y cursor.old.line.items (R.remaining reader.old) text → IsInterruption e) }
     ensures read { IfOk result (λ x. IsRoot n x × ReadsBehind cursor.old.line.items (root_text x.facilities x.places) cursor.new.line.items (R.remaining reader.old) (R.remaining reader.new)) }
+    ensures class { IfErr result IsReadFault }
 {
     match judge_root(alloc, &cursor.line, n, cursor.number)? {
         None => Ok(Partial::root(alloc, n)?),
@@ -193,6 +204,7 @@ fn judge_root(
     ensures none { IfOk result (λ o. MatchOption o ((text : List ℕ) → line.now ≢ codes "node " ++ text) (λ _. ⊤)) }
     ensures other { IfErr result (λ e. slice_index line.now 0 ≢ 110 → IsInterruption e) }
     ensures refused { IfErr result (λ e. (x : Placement) → HasRootLine n x → line.now ++ 10 ∷ [] ≡ root_text x.facilities x.places → IsInterruption e) }
+    ensures class { IfErr result IsReadFault }
 {
     let Some(text) = line.strip_prefix(b"node ") else {
         return Ok(None);
@@ -217,6 +229,7 @@ fn read_bound<R: BufRead>(
         (λ g. (h : ℤ) (text : List ℕ) → HasBound cost h cursor.old.line.items (R.remaining reader.old) text → (g ≡ h) × IsCurrent cursor.new.line.items (R.remaining reader.new) text)
         (λ e. (h : ℤ) (text : List ℕ) → HasBound cost h cursor.old.line.items (R.remaining reader.old) text → IsInterruption e) }
     ensures read { IfOk result (λ g. IsBoundFor cost g × ReadsBehind cursor.old.line.items (bound_text cost g) cursor.new.line.items (R.remaining reader.old) (R.remaining reader.new)) }
+    ensures class { IfErr result IsReadFault }
 {
     match judge_bound(&cursor.line, cost, cursor.number)? {
         None => Ok(cost),
@@ -229,9 +242,10 @@ fn read_bound<R: BufRead>(
 
 /// The bound that a line states, if it is one of a bound.
 fn judge_bound(line: &[u8], cost: i128, number: u64) -> Result<Option<i128>, ProofError>
-    ensures { MatchResult result
+    ensures judged { MatchResult result
         (λ o. MatchOption o ((g : ℤ) → IsNamed (codes "bound") line.now (g ∷ []) → ⊥) (λ g. IsBelow cost g × IsNamed (codes "bound") line.now (g ∷ [])))
         (λ _. ((g : ℤ) → IsBelow cost g → IsNamed (codes "bound") line.now (g ∷ []) → ⊥) × ((zs : List ℤ) × IsNamed (codes "bound") line.now zs)) }
+    ensures class { IfErr result IsReadFault }
 {
     match one_number(b"bound", line) {
         None => Ok(None),

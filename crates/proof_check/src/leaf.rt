@@ -1,6 +1,6 @@
 //! What a node reaches, and the list of leaves that do not reach the cost.
 
-ghost use Rattle.std.specs.Prelude.{◌≡◌, ◌^◌, ◌*◌, ◌<◌, ◌≤◌, ◌++◌, ◌∷◌, [], ℤ, List, length, pos, ◌*ℤ◌, IfErr, IfOk, OnOk, unsigned_abs};
+ghost use Rattle.std.specs.Prelude.{◌≡◌, ◌^◌, ◌*◌, ◌<◌, ◌≤◌, ◌++◌, ◌∷◌, [], ℤ, List, length, pos, ◌*ℤ◌, IfOk, MatchBool, OnOk, unsigned_abs};
 ghost use Rattle.qap_cost.specs.Matrix.{total};
 ghost use Rattle.qap_cost.specs.Range.{AllWithin};
 ghost use Rattle.pair_duals.specs.PairDuals.{AreDuals};
@@ -8,13 +8,12 @@ ghost use Rattle.pair_duals.specs.Reduced.{count_of};
 ghost use Rattle.qap_proof.specs.Cover.{leaf as leaf_at};
 ghost use Rattle.proof_tree.specs.Leaves.{IsGreatest};
 ghost use Rattle.proof_tree.specs.Valid.{ReachesBound};
-ghost use Rattle.proof_check.specs.Acceptance.{IsInterruption};
 ghost use Rattle.proof_check.specs.Judge.{IsJudge, IsValueWithMinima, wide};
 ghost use Rattle.proof_check.specs.Walk.{PushesLeaf};
 
 use pair_duals::{PairDuals, Reduced};
 use qap_cost::{Instance, Partial};
-use qap_proof::{Leaf, ProofError};
+use qap_proof::Leaf;
 use std::alloc::{AllocError, Global};
 
 /// The parameters of a tree's check: the instance, its cost step, the bound, and the greatest multiple of the step that
@@ -30,28 +29,28 @@ pub(crate) struct Judge<'a> {
     pub(crate) enough: i128,
 }
 
-/// Makes sure that a node with this value reaches the bound, and lists it if it does not reach the cost.
+/// Whether a node with this value reaches the bound; it is listed if it does not reach the cost.
 pub(crate) fn check_value(
     judge: &Judge<'_>,
     duals: &PairDuals<i128>,
     value: i128,
     node: &Partial,
-    fault: ProofError,
     leaves: &mut Vec<Leaf>,
-) -> Result<(), ProofError>
+) -> Result<bool, AllocError>
     requires judge { IsJudge judge.now.step judge.now.bound judge.now.below judge.now.cost judge.now.enough }
     requires small { unsigned_abs value ≤ 10 ^ 37 }
-    ensures refused { IfErr result (λ e. ReachesBound judge.now.step judge.now.bound duals.now.scale value → IsInterruption e) }
-    ensures listed { OnOk result (PushesLeaf (λ g. ReachesBound judge.now.step g duals.now.scale value) judge.now.bound judge.now.cost node.now leaves.old.items leaves.new.items) }
+    ensures { IfOk result (λ reaches. MatchBool reaches
+        (PushesLeaf (λ g. ReachesBound judge.now.step g duals.now.scale value) judge.now.bound judge.now.cost node.now leaves.old.items leaves.new.items)
+        (ReachesBound judge.now.step judge.now.bound duals.now.scale value → ⊥)) }
 {
     if value <= threshold(judge.below, duals) {
-        return Err(fault);
+        return Ok(false);
     }
     if value > threshold(judge.enough, duals) {
-        return Ok(());
+        return Ok(true);
     }
     push_leaf(judge.step, duals.scale(), value, node, leaves)?;
-    Ok(())
+    Ok(true)
 }
 
 /// Lists the leaf of a node with this value, under pair duals of this scale.

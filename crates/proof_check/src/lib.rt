@@ -12,6 +12,8 @@ mod listed;
 mod node_line;
 mod numbers;
 mod rows;
+mod skimming;
+mod split;
 mod walking;
 
 pub use acceptance::{Checked, accept, accept_leaves, accept_stated};

@@ -1,10 +1,11 @@
 //! The line of a leaf or a split.
 
-ghost use Rattle.std.specs.Prelude.{◌≡◌, ◌+◌, ◌<◌, ◌≤◌, ◌++◌, ◌∷◌, [], ℕ, length, pos, codes, IfErr, IfOk, IfSome, MatchOption};
+ghost use Rattle.std.specs.Prelude.{◌≡◌, ◌+◌, ◌<◌, ◌≤◌, ◌++◌, ◌∷◌, ◌↔◌, [], IsTrue, ℕ, length, pos, codes, IfErr, IfOk, IfSome, MatchOption};
 ghost use Rattle.qap_lines.specs.LineText.{numbers_text};
 ghost use Rattle.qap_proof.specs.Text.{letter};
 ghost use Rattle.proof_check.specs.Completeness.{HasNoBlank, RefusesNode, RefusesSplit};
-ghost use Rattle.proof_check.specs.Lines.{IsNodeLine, IsSplitLine};
+ghost use Rattle.proof_check.specs.Fault.{IsReadFault};
+ghost use Rattle.proof_check.specs.Lines.{AreMarks, IsNodeLine, IsSplitLine};
 
 use crate::numbers::limited_numbers;
 use qap_io::from_one;
@@ -41,6 +42,7 @@ pub(crate) fn read_node_line(
     requires size { size ≤ 256 }
     ensures found { IfOk result (IsNodeLine m line.now) }
     ensures refused { IfErr result (RefusesNode m size line.now) }
+    ensures class { IfErr result IsReadFault }
 {
     match line.first() {
         Some(b'x') => Ok(NodeLine::Leaf(limited_numbers(alloc, b"x", line, m, number)?)),
@@ -87,6 +89,7 @@ fn read_split(
     requires size { size ≤ 256 }
     ensures found { IfOk result (λ s. IsSplitLine m line.now s × (s.side ≡ side)) }
     ensures refused { IfErr result (RefusesSplit m size side line.now) }
+    ensures class { IfErr result IsReadFault }
 {
     let Some(heading) = heading_of(line) else {
         return Err(ProofError::BadLine(number));
@@ -97,6 +100,9 @@ fn read_split(
     if heading.behind.len() < m {
         return Err(ProofError::BadLine(number));
     }
+    if !are_marks(&heading.behind[..m]) {
+        return Err(ProofError::BadLine(number));
+    }
     let marks = Vec::from_slice(alloc, &heading.behind[..m])?;
     let u = limited_numbers(alloc, b"", &heading.behind[m..], m, number)?;
     Ok(SplitLine {
@@ -105,6 +111,18 @@ fn read_split(
         marks,
         u,
     })
+}
+
+/// Whether each of these characters marks a child without a text, or one with a text.
+fn are_marks(marks: &[u8]) -> bool
+    ensures { IsTrue result ↔ AreMarks marks.now }
+{
+    for at in 0..marks.len() {
+        if marks[at] != b'.' && marks[at] != b'+' {
+            return false;
+        }
+    }
+    true
 }
 
 /// What is before and after the second blank of a line.

@@ -5,6 +5,7 @@ ghost use Rattle.qap_lines.specs.LineText.{numbers_text};
 ghost use Rattle.qap_lines.specs.Number.{IsNamed};
 ghost use Rattle.proof_check.specs.Acceptance.{IsInterruption};
 ghost use Rattle.proof_check.specs.Completeness.{BeginsWithRows};
+ghost use Rattle.proof_check.specs.Fault.{IsReadFault};
 ghost use Rattle.proof_check.specs.Rows.{ReadsRows, lists_of};
 ghost use Rattle.proof_tree.specs.Shape.{AreLimited};
 
@@ -40,6 +41,7 @@ pub(crate) fn read_rows<R: BufRead>(
     ensures passed { MatchResult result
         (λ rows. (wanted : List (List ℤ)) (rest : List ℕ) → BeginsWithRows m wanted (R.remaining reader.old) rest → (lists_of rows.items ≡ wanted) × (R.remaining reader.new ≡ Some rest))
         (λ e. (wanted : List (List ℤ)) (rest : List ℕ) → BeginsWithRows m wanted (R.remaining reader.old) rest → IsInterruption e) }
+    ensures class { IfErr result IsReadFault }
 {
     let width = 2 * m.saturating_sub(1);
     let mut rows = Vec::new(alloc);
@@ -56,6 +58,7 @@ fn read_row(alloc: Global, line: &[u8], number: u64, width: usize) -> Result<Vec
     requires { width ≤ 512 }
     ensures found { IfOk result (λ row. AreLimited width row.items × (line.now ≡ drop 1 (numbers_text row.items))) }
     ensures refused { IfErr result (λ e. (row : List ℤ) → AreLimited width row → line.now ≡ drop 1 (numbers_text row) → e ≡ ProofError.OutOfMemory) }
+    ensures class { IfErr result IsReadFault }
 {
     if width == 0 {
         return no_row(alloc, line, number);
@@ -86,6 +89,7 @@ fn push_row(rows: &mut Vec<Vec<i128>>, row: Vec<i128>) -> Result<(), AllocError>
 fn no_row(alloc: Global, line: &[u8], number: u64) -> Result<Vec<i128>, ProofError>
     ensures found { IfOk result (λ row. AreLimited 0 row.items × (line.now ≡ drop 1 (numbers_text row.items))) }
     ensures refused { OnErr result ((row : List ℤ) → AreLimited 0 row → line.now ≡ drop 1 (numbers_text row) → ⊥) }
+    ensures class { IfErr result IsReadFault }
 {
     if line.is_empty() {
         Ok(Vec::new(alloc))

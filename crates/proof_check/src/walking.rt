@@ -1,31 +1,33 @@
 //! Checks a tree as its lines are read, without storing it: it keeps the reduced form of each node above the current
-//! line, and the pair duals of those that have their own.
+//! line, and the pair duals of those that have their own. After a fault of content, the rest is read for its grammar.
 
-ghost use Rattle.std.specs.Prelude.{◌≡◌, ◌≢◌, ◌↔◌, ℕ, ◌+◌, ◌^◌, ◌<◌, ◌≤◌, ℤ, pos, ◌*ℤ◌, Option, None, Some, IsTrue, List, length, false, IfErr, IfOk, MatchBool, MatchOption, OnOk, slice_index, unsigned_abs};
+ghost use Rattle.std.specs.Prelude.{◌≡◌, ◌⊎◌, ◌+◌, ◌<◌, ◌∷◌, [], ℕ, ℤ, Option, None, Some, List, length, false, true, IfErr, IfOk, MatchBool, MatchOption, OnOk};
 ghost use Rattle.qap_cost.specs.Instance.{Problem};
-ghost use Rattle.qap_cost.specs.Placement.{IsPlacement, Placement, free_facilities, free_locations};
+ghost use Rattle.qap_cost.specs.Placement.{IsPlacement, Placement};
 ghost use Rattle.qap_cost.specs.Range.{AllLimited};
-ghost use Rattle.pair_duals.specs.PairDuals.{AreDuals, Duals};
+ghost use Rattle.pair_duals.specs.PairDuals.{Duals};
 ghost use Rattle.pair_duals.specs.Range.{IsInScale};
 ghost use Rattle.pair_duals.specs.Reduced.{IsFormOf, IsLine, count_of};
 ghost use Rattle.pair_duals.specs.Seats.{child_at};
-ghost use Rattle.qap_proof.specs.Cell.{IsPlaceOf};
 ghost use Rattle.proof_tree.specs.Tree.{child_on, column_of, row_of};
 ghost use Rattle.proof_tree.specs.Valid.{IsClosed, Under, under};
-ghost use Rattle.proof_check.specs.Acceptance.{IsInterruption};
-ghost use Rattle.proof_check.specs.Completeness.{HasChildren, HasLined, HasOwn, HasSplit, HasTree, Leaves, LeavesOthers};
+ghost use Rattle.proof_check.specs.Completeness.{Any, BeginsChildren, BeginsLined, BeginsOwn, BeginsSplit, BeginsTree, Finds, HasChildren, HasLined, HasOthers, HasOwn, HasSplit, HasTree, Leaves, LeavesOthers, PassesOthers, RefusesImage};
+ghost use Rattle.proof_check.specs.Fault.{IsReadFault};
 ghost use Rattle.proof_check.specs.Judge.{IsJudge, IsParent, wide};
-ghost use Rattle.proof_check.specs.Walk.{PushesLeaf, WalksChild, WalksChildren, WalksLined, WalksSplit, WalksTree};
+ghost use Rattle.proof_check.specs.Lines.{AreMarks};
+ghost use Rattle.proof_check.specs.Walk.{JudgesImage, PushesLeaf, SkimsChildren, SkimsLined, SkimsSplit, SkimsTree, WalksChildren, WalksLined, WalksSplit, WalksTree, is_there};
 
 use crate::cursor::{Cursor, advance};
-use crate::image_line::{SplitOf, judge_image};
+use crate::image_line::{is_image, read_image};
 use crate::leaf::{Judge, bound_threshold, check_value, threshold, value_with_minima, zeros};
 use crate::listed::listed;
 use crate::node_line::{NodeLine, SplitLine, read_node_line};
 use crate::rows::{read_rows, scale_of};
+use crate::skimming::{skim_children, skim_lined};
+use crate::split::{SplitOf, begins_image, cell, child_node, open};
 use pair_duals::{PairDuals, Reduced};
 use qap_cost::Partial;
-use qap_proof::{Leaf, ProofError, Side};
+use qap_proof::{Leaf, ProofError};
 use std::alloc::{AllocError, Global};
 use std::io::BufRead;
 
@@ -47,18 +49,20 @@ pub(crate) struct Walk {
     pub(crate) leaves: Vec<Leaf>,
 }
 
-/// Checks the tree of a root, whose first line is current.
+/// The first fault of content of the tree of a root, whose first line is current, if it has one.
 pub(crate) fn walk_root<R: BufRead>(
     reader: &mut R,
     judge: &Judge<'_>,
     node: &Partial,
     walk: &mut Walk,
-) -> Result<(), ProofError>
+) -> Result<Option<ProofError>, ProofError>
     requires size { judge.now.instance.now.size ≡ node.now.size }
     requires placement { IsPlacement node.now }
     requires judge { IsJudge judge.now.step judge.now.bound judge.now.below judge.now.cost judge.now.enough }
-    ensures passed { Leaves (HasTree judge.now.instance.now judge.now.step judge.now.bound node.now None walk.old.cursor.line.items (R.remaining reader.old)) (R.remaining reader.new) result }
-    ensures walked { OnOk result (WalksTree judge.now.instance.now judge.now.step judge.now.bound judge.now.cost node.now None walk.old.cursor.line.items (R.remaining reader.old) (R.remaining reader.new) walk.old.leaves.items walk.new.leaves.items) }
+    ensures passed { Leaves (BeginsTree node.now false Any walk.old.cursor.line.items (R.remaining reader.old)) (R.remaining reader.new) result }
+    ensures walked { IfOk result (λ fault. MatchOption fault
+        (WalksTree judge.now.instance.now judge.now.step judge.now.bound judge.now.cost node.now None walk.old.cursor.line.items (R.remaining reader.old) (R.remaining reader.new) walk.old.leaves.items walk.new.leaves.items)
+        (Finds (SkimsTree node.now false walk.old.cursor.line.items (R.remaining reader.old) (R.remaining reader.new)) (HasTree judge.now.instance.now judge.now.step judge.now.bound node.now None walk.old.cursor.line.items (R.remaining reader.old)))) }
 {
     if walk.cursor.line.starts_with(b"p") {
         walk_own(reader, judge, node, walk)
@@ -67,7 +71,7 @@ pub(crate) fn walk_root<R: BufRead>(
     }
 }
 
-/// Checks a tree below a node, whose first line is current.
+/// Likewise for a tree below a node, whose first line is current.
 #[cycle(walking)]
 fn walk_below<R: BufRead>(
     reader: &mut R,
@@ -76,7 +80,7 @@ fn walk_below<R: BufRead>(
     duals: &PairDuals<i128>,
     form: &mut Reduced<i128>,
     walk: &mut Walk,
-) -> Result<(), ProofError>
+) -> Result<Option<ProofError>, ProofError>
     requires size { judge.now.instance.now.size ≡ node.now.size }
     requires placement { IsPlacement node.now }
     requires judge { IsJudge judge.now.step judge.now.bound judge.now.below judge.now.cost judge.now.enough }
@@ -84,8 +88,10 @@ fn walk_below<R: BufRead>(
     requires in_scale { IsInScale wide judge.now.instance.now duals.now.scale }
     requires form { IsFormOf judge.now.instance.now duals.now node.now form.old }
     requires fresh { form.old.is_lined ≡ false }
-    ensures passed { Leaves (HasTree judge.now.instance.now judge.now.step judge.now.bound node.now (Some (under duals.now form.old)) walk.old.cursor.line.items (R.remaining reader.old)) (R.remaining reader.new) result }
-    ensures walked { OnOk result (WalksTree judge.now.instance.now judge.now.step judge.now.bound judge.now.cost node.now (Some (under duals.now form.old)) walk.old.cursor.line.items (R.remaining reader.old) (R.remaining reader.new) walk.old.leaves.items walk.new.leaves.items) }
+    ensures passed { Leaves (BeginsTree node.now true Any walk.old.cursor.line.items (R.remaining reader.old)) (R.remaining reader.new) result }
+    ensures walked { IfOk result (λ fault. MatchOption fault
+        (WalksTree judge.now.instance.now judge.now.step judge.now.bound judge.now.cost node.now (Some (under duals.now form.old)) walk.old.cursor.line.items (R.remaining reader.old) (R.remaining reader.new) walk.old.leaves.items walk.new.leaves.items)
+        (Finds (SkimsTree node.now true walk.old.cursor.line.items (R.remaining reader.old) (R.remaining reader.new)) (HasTree judge.now.instance.now judge.now.step judge.now.bound node.now (Some (under duals.now form.old)) walk.old.cursor.line.items (R.remaining reader.old)))) }
 {
     if walk.cursor.line.starts_with(b"p") {
         walk_own(reader, judge, node, walk)
@@ -94,19 +100,21 @@ fn walk_below<R: BufRead>(
     }
 }
 
-/// Checks a tree that begins with pair duals of its own.
+/// Likewise for a tree that begins with pair duals of its own.
 #[cycle(walking)]
 fn walk_own<R: BufRead>(
     reader: &mut R,
     judge: &Judge<'_>,
     node: &Partial,
     walk: &mut Walk,
-) -> Result<(), ProofError>
+) -> Result<Option<ProofError>, ProofError>
     requires size { judge.now.instance.now.size ≡ node.now.size }
     requires placement { IsPlacement node.now }
     requires judge { IsJudge judge.now.step judge.now.bound judge.now.below judge.now.cost judge.now.enough }
-    ensures passed { Leaves (HasOwn judge.now.instance.now judge.now.step judge.now.bound node.now walk.old.cursor.line.items (R.remaining reader.old)) (R.remaining reader.new) result }
-    ensures walked { (above : Option Under) → OnOk result (WalksTree judge.now.instance.now judge.now.step judge.now.bound judge.now.cost node.now above walk.old.cursor.line.items (R.remaining reader.old) (R.remaining reader.new) walk.old.leaves.items walk.new.leaves.items) }
+    ensures passed { Leaves (BeginsOwn node.now Any walk.old.cursor.line.items (R.remaining reader.old)) (R.remaining reader.new) result }
+    ensures walked { (above : Option Under) → IfOk result (λ fault. MatchOption fault
+        (WalksTree judge.now.instance.now judge.now.step judge.now.bound judge.now.cost node.now above walk.old.cursor.line.items (R.remaining reader.old) (R.remaining reader.new) walk.old.leaves.items walk.new.leaves.items)
+        (Finds (SkimsTree node.now (is_there above) walk.old.cursor.line.items (R.remaining reader.old) (R.remaining reader.new)) (HasOwn judge.now.instance.now judge.now.step judge.now.bound node.now above walk.old.cursor.line.items (R.remaining reader.old)))) }
 {
     let number = walk.cursor.number;
     let Some(scale) = scale_of(&walk.cursor.line) else {
@@ -114,16 +122,18 @@ fn walk_own<R: BufRead>(
     };
     let m = node.size() - node.depth();
     let rows = read_rows(judge.alloc, reader, &mut walk.cursor, m)?;
+    advance(reader, &mut walk.cursor)?;
     let Some(duals) = listed(judge.alloc, judge.instance, node, scale, &rows)? else {
-        return Err(ProofError::NotFeasible(number));
+        skim_lined(judge.alloc, reader, node, &mut walk.cursor)?;
+        return Ok(Some(ProofError::NotFeasible(number)));
     };
     let mut form = Reduced::empty(judge.alloc);
     form.start(judge.instance, node, &duals)?;
-    advance(reader, &mut walk.cursor)?;
     walk_lined(reader, judge, node, &duals, &mut form, walk)
 }
 
-/// Checks a tree by the pair duals in force at its root, and the form there.
+/// Likewise for a tree from the line of its root on, which is current, by the pair duals in force at its root, and the
+/// form there.
 #[cycle(walking)]
 fn walk_lined<R: BufRead>(
     reader: &mut R,
@@ -132,7 +142,7 @@ fn walk_lined<R: BufRead>(
     duals: &PairDuals<i128>,
     form: &mut Reduced<i128>,
     walk: &mut Walk,
-) -> Result<(), ProofError>
+) -> Result<Option<ProofError>, ProofError>
     requires size { judge.now.instance.now.size ≡ node.now.size }
     requires placement { IsPlacement node.now }
     requires judge { IsJudge judge.now.step judge.now.bound judge.now.below judge.now.cost judge.now.enough }
@@ -140,22 +150,23 @@ fn walk_lined<R: BufRead>(
     requires in_scale { IsInScale wide judge.now.instance.now duals.now.scale }
     requires form { IsFormOf judge.now.instance.now duals.now node.now form.old }
     requires fresh { form.old.is_lined ≡ false }
-    ensures passed { Leaves (HasLined judge.now.instance.now judge.now.step judge.now.bound node.now (under duals.now form.old) walk.old.cursor.line.items (R.remaining reader.old)) (R.remaining reader.new) result }
-    ensures walked { OnOk result (WalksLined judge.now.instance.now judge.now.step judge.now.bound judge.now.cost node.now (under duals.now form.old) walk.old.cursor.line.items (R.remaining reader.old) (R.remaining reader.new) walk.old.leaves.items walk.new.leaves.items) }
+    ensures passed { Leaves (BeginsLined node.now Any walk.old.cursor.line.items (R.remaining reader.old)) (R.remaining reader.new) result }
+    ensures walked { IfOk result (λ fault. MatchOption fault
+        (WalksLined judge.now.instance.now judge.now.step judge.now.bound judge.now.cost node.now (under duals.now form.old) walk.old.cursor.line.items (R.remaining reader.old) (R.remaining reader.new) walk.old.leaves.items walk.new.leaves.items)
+        (Finds (SkimsLined node.now walk.old.cursor.line.items (R.remaining reader.old) (R.remaining reader.new)) (HasLined judge.now.instance.now judge.now.step judge.now.bound node.now (under duals.now form.old) walk.old.cursor.line.items (R.remaining reader.old)))) }
 {
     let number = walk.cursor.number;
-    let line = read_node_line(
-        judge.alloc,
-        &walk.cursor.line,
-        number,
-        form.free(),
-        node.size(),
-    )?;
+    let m = form.free();
+    let line = read_node_line(judge.alloc, &walk.cursor.line, number, m, node.size())?;
     match line {
         NodeLine::Leaf(u) => {
             draw(judge.alloc, form, &u)?;
-            let fault = ProofError::BoundTooLow(number);
-            check_value(judge, duals, form.value(), node, fault, &mut walk.leaves)
+            let reached = check_value(judge, duals, form.value(), node, &mut walk.leaves)?;
+            if reached {
+                Ok(None)
+            } else {
+                Ok(Some(ProofError::BoundTooLow(number)))
+            }
         }
         NodeLine::Split(split) => {
             draw(judge.alloc, form, &split.u)?;
@@ -164,7 +175,7 @@ fn walk_lined<R: BufRead>(
     }
 }
 
-/// Checks the children of a split, whose line is current and has been drawn.
+/// Likewise for the children of a split, whose line is current and has been drawn.
 #[cycle(walking)]
 fn walk_split<'a, R: BufRead>(
     reader: &mut R,
@@ -174,33 +185,28 @@ fn walk_split<'a, R: BufRead>(
     form: &'a Reduced<i128>,
     split: &SplitLine,
     walk: &mut Walk,
-) -> Result<(), ProofError>
+) -> Result<Option<ProofError>, ProofError>
     requires size { judge.now.instance.now.size ≡ node.now.size }
     requires placement { IsPlacement node.now }
     requires judge { IsJudge judge.now.step judge.now.bound judge.now.below judge.now.cost judge.now.enough }
     requires duals_size { duals.now.size ≡ node.now.size }
     requires in_scale { IsInScale wide judge.now.instance.now duals.now.scale }
     requires form { IsFormOf judge.now.instance.now duals.now node.now form.now }
-    requires marks { length split.now.marks.items + length node.now.facilities ≡ node.now.size }
-    ensures passed { Leaves (HasSplit judge.now.instance.now judge.now.step judge.now.bound node.now (under duals.now form.now) split.now.side split.now.number split.now.marks.items (R.remaining reader.old)) (R.remaining reader.new) result }
-    ensures walked { OnOk result (WalksSplit judge.now.instance.now judge.now.step judge.now.bound judge.now.cost node.now (under duals.now form.now) split.now.side split.now.number split.now.marks.items (R.remaining reader.old) (R.remaining reader.new) walk.old.leaves.items walk.new.leaves.items) }
+    requires count { length split.now.marks.items + length node.now.facilities ≡ node.now.size }
+    requires marks { AreMarks split.now.marks.items }
+    ensures passed { Leaves (BeginsSplit node.now split.now.side split.now.number (λ _. Any) split.now.marks.items (R.remaining reader.old)) (R.remaining reader.new) result }
+    ensures walked { IfOk result (λ fault. MatchOption fault
+        (WalksSplit judge.now.instance.now judge.now.step judge.now.bound judge.now.cost node.now (under duals.now form.now) split.now.side split.now.number split.now.marks.items (R.remaining reader.old) (R.remaining reader.new) walk.old.leaves.items walk.new.leaves.items)
+        (Finds (SkimsSplit node.now split.now.side split.now.number split.now.marks.items (R.remaining reader.old) (R.remaining reader.new)) (HasSplit judge.now.instance.now judge.now.step judge.now.bound node.now (under duals.now form.now) split.now.side split.now.number split.now.marks.items (R.remaining reader.old)))) }
 {
-    let facilities = node.free_facilities()?;
-    let locations = node.free_locations()?;
-    let own = match split.side {
-        Side::Facility => place_of(&facilities, split.number),
-        Side::Location => place_of(&locations, split.number),
-    };
-    let Some(own) = own else {
-        return Err(taken(split.side, walk.cursor.number));
-    };
+    let opened = open(node, split.side, split.number, walk.cursor.number)?;
     let parent = Parent {
         split: SplitOf {
             node,
-            facilities: &facilities,
-            locations: &locations,
+            facilities: &opened.facilities,
+            locations: &opened.locations,
             side: split.side,
-            own,
+            own: opened.own,
         },
         duals,
         form,
@@ -210,7 +216,7 @@ fn walk_split<'a, R: BufRead>(
     walk_children(reader, judge, &parent, &split.marks, walk)
 }
 
-/// Checks the children of a split, which have these marks.
+/// Likewise for the children of a split, which have these marks.
 #[cycle(walking)]
 fn walk_children<R: BufRead>(
     reader: &mut R,
@@ -218,21 +224,36 @@ fn walk_children<R: BufRead>(
     parent: &Parent<'_>,
     marks: &[u8],
     walk: &mut Walk,
-) -> Result<(), ProofError>
+) -> Result<Option<ProofError>, ProofError>
     requires judge { IsJudge judge.now.step judge.now.bound judge.now.below judge.now.cost judge.now.enough }
     requires parent { IsParent judge.now.instance.now judge.now.below parent.now.split.node.now (under parent.now.duals.now parent.now.form.now) parent.now.split.facilities.now parent.now.split.locations.now parent.now.split.side parent.now.split.own parent.now.threshold }
-    requires marks { length marks.now + length parent.now.split.node.now.facilities ≡ parent.now.split.node.now.size }
-    ensures passed { Leaves (HasChildren judge.now.instance.now judge.now.step judge.now.bound parent.now.split.node.now (under parent.now.duals.now parent.now.form.now) parent.now.split.side parent.now.split.own 0 marks.now (R.remaining reader.old)) (R.remaining reader.new) result }
-    ensures walked { OnOk result (WalksChildren judge.now.instance.now judge.now.step judge.now.bound judge.now.cost parent.now.split.node.now (under parent.now.duals.now parent.now.form.now) parent.now.split.side parent.now.split.own (length marks.now) marks.now (R.remaining reader.old) (R.remaining reader.new) walk.old.leaves.items walk.new.leaves.items) }
+    requires count { length marks.now + length parent.now.split.node.now.facilities ≡ parent.now.split.node.now.size }
+    requires marks { AreMarks marks.now }
+    ensures passed { Leaves (BeginsChildren parent.now.split.node.now parent.now.split.side parent.now.split.own 0 Any marks.now (R.remaining reader.old)) (R.remaining reader.new) result }
+    ensures walked { IfOk result (λ fault. MatchOption fault
+        (WalksChildren judge.now.instance.now judge.now.step judge.now.bound judge.now.cost parent.now.split.node.now (under parent.now.duals.now parent.now.form.now) parent.now.split.side parent.now.split.own 0 marks.now (R.remaining reader.old) (R.remaining reader.new) walk.old.leaves.items walk.new.leaves.items)
+        (Finds (SkimsChildren parent.now.split.node.now parent.now.split.side parent.now.split.own 0 marks.now (R.remaining reader.old) (R.remaining reader.new)) (HasChildren judge.now.instance.now judge.now.step judge.now.bound parent.now.split.node.now (under parent.now.duals.now parent.now.form.now) parent.now.split.side parent.now.split.own 0 marks.now (R.remaining reader.old)))) }
 {
     let mut below = Reduced::empty(judge.alloc);
     for child in 0..marks.len() {
-        walk_marked(reader, judge, parent, child, marks[child], &mut below, walk)?;
+        let judged = walk_marked(reader, judge, parent, child, marks[child], &mut below, walk)?;
+        if let Some(fault) = judged {
+            let others = &marks[child + 1..];
+            skim_children(
+                judge.alloc,
+                reader,
+                &parent.split,
+                child + 1,
+                others,
+                &mut walk.cursor,
+            )?;
+            return Ok(Some(fault));
+        }
     }
-    Ok(())
+    Ok(None)
 }
 
-/// Checks a child, which has this mark.
+/// Likewise for a child, which has this mark.
 #[cycle(walking)]
 fn walk_marked<R: BufRead>(
     reader: &mut R,
@@ -242,24 +263,29 @@ fn walk_marked<R: BufRead>(
     mark: u8,
     below: &mut Reduced<i128>,
     walk: &mut Walk,
-) -> Result<(), ProofError>
+) -> Result<Option<ProofError>, ProofError>
     requires judge { IsJudge judge.now.step judge.now.bound judge.now.below judge.now.cost judge.now.enough }
     requires parent { IsParent judge.now.instance.now judge.now.below parent.now.split.node.now (under parent.now.duals.now parent.now.form.now) parent.now.split.facilities.now parent.now.split.locations.now parent.now.split.side parent.now.split.own parent.now.threshold }
     requires child { child + length parent.now.split.node.now.facilities < parent.now.split.node.now.size }
-    ensures passed { LeavesOthers judge.now.instance.now judge.now.step judge.now.bound parent.now.split.node.now (under parent.now.duals.now parent.now.form.now) parent.now.split.side parent.now.split.own child mark (R.remaining reader.old) (R.remaining reader.new) result }
-    ensures walked { OnOk result (WalksChild judge.now.instance.now judge.now.step judge.now.bound judge.now.cost parent.now.split.node.now (under parent.now.duals.now parent.now.form.now) parent.now.split.side parent.now.split.own child mark (R.remaining reader.old) (R.remaining reader.new) walk.old.leaves.items walk.new.leaves.items) }
+    requires mark { (mark ≡ 46) ⊎ (mark ≡ 43) }
+    ensures passed { LeavesOthers parent.now.split.node.now parent.now.split.side parent.now.split.own child mark (R.remaining reader.old) (R.remaining reader.new) result }
+    ensures walked { IfOk result (λ fault. MatchOption fault
+        (WalksChildren judge.now.instance.now judge.now.step judge.now.bound judge.now.cost parent.now.split.node.now (under parent.now.duals.now parent.now.form.now) parent.now.split.side parent.now.split.own child (mark ∷ []) (R.remaining reader.old) (R.remaining reader.new) walk.old.leaves.items walk.new.leaves.items
+        × PassesOthers judge.now.instance.now judge.now.step judge.now.bound parent.now.split.node.now (under parent.now.duals.now parent.now.form.now) parent.now.split.side parent.now.split.own child mark (R.remaining reader.old) (R.remaining reader.new))
+        (Finds (SkimsChildren parent.now.split.node.now parent.now.split.side parent.now.split.own child (mark ∷ []) (R.remaining reader.old) (R.remaining reader.new)) (HasOthers judge.now.instance.now judge.now.step judge.now.bound parent.now.split.node.now (under parent.now.duals.now parent.now.form.now) parent.now.split.side parent.now.split.own child mark (R.remaining reader.old)))) }
 {
-    if mark == b'.' {
-        check_closed(judge, parent, child, below, &mut walk.leaves)?;
-        Ok(())
-    } else if mark == b'+' {
-        walk_child(reader, judge, parent, child, below, walk)
+    if mark == b'+' {
+        return walk_child(reader, judge, parent, child, below, walk);
+    }
+    let closed = check_closed(judge, parent, child, below, &mut walk.leaves)?;
+    if closed {
+        Ok(None)
     } else {
-        Err(ProofError::BadLine(parent.line))
+        Ok(Some(ProofError::CutTooLow(parent.line)))
     }
 }
 
-/// Checks a child that has a text.
+/// Likewise for a child that has a text.
 #[cycle(walking)]
 fn walk_child<R: BufRead>(
     reader: &mut R,
@@ -268,23 +294,19 @@ fn walk_child<R: BufRead>(
     child: usize,
     below: &mut Reduced<i128>,
     walk: &mut Walk,
-) -> Result<(), ProofError>
+) -> Result<Option<ProofError>, ProofError>
     requires judge { IsJudge judge.now.step judge.now.bound judge.now.below judge.now.cost judge.now.enough }
     requires parent { IsParent judge.now.instance.now judge.now.below parent.now.split.node.now (under parent.now.duals.now parent.now.form.now) parent.now.split.facilities.now parent.now.split.locations.now parent.now.split.side parent.now.split.own parent.now.threshold }
     requires child { child + length parent.now.split.node.now.facilities < parent.now.split.node.now.size }
-    ensures passed { LeavesOthers judge.now.instance.now judge.now.step judge.now.bound parent.now.split.node.now (under parent.now.duals.now parent.now.form.now) parent.now.split.side parent.now.split.own child 43 (R.remaining reader.old) (R.remaining reader.new) result }
-    ensures walked { OnOk result (WalksChild judge.now.instance.now judge.now.step judge.now.bound judge.now.cost parent.now.split.node.now (under parent.now.duals.now parent.now.form.now) parent.now.split.side parent.now.split.own child 43 (R.remaining reader.old) (R.remaining reader.new) walk.old.leaves.items walk.new.leaves.items) }
+    ensures passed { LeavesOthers parent.now.split.node.now parent.now.split.side parent.now.split.own child 43 (R.remaining reader.old) (R.remaining reader.new) result }
+    ensures walked { IfOk result (λ fault. MatchOption fault
+        (WalksChildren judge.now.instance.now judge.now.step judge.now.bound judge.now.cost parent.now.split.node.now (under parent.now.duals.now parent.now.form.now) parent.now.split.side parent.now.split.own child (43 ∷ []) (R.remaining reader.old) (R.remaining reader.new) walk.old.leaves.items walk.new.leaves.items
+        × PassesOthers judge.now.instance.now judge.now.step judge.now.bound parent.now.split.node.now (under parent.now.duals.now parent.now.form.now) parent.now.split.side parent.now.split.own child 43 (R.remaining reader.old) (R.remaining reader.new))
+        (Finds (SkimsChildren parent.now.split.node.now parent.now.split.side parent.now.split.own child (43 ∷ []) (R.remaining reader.old) (R.remaining reader.new)) (HasOthers judge.now.instance.now judge.now.step judge.now.bound parent.now.split.node.now (under parent.now.duals.now parent.now.form.now) parent.now.split.side parent.now.split.own child 43 (R.remaining reader.old)))) }
 {
     advance(reader, &mut walk.cursor)?;
     if begins_image(&walk.cursor.line) {
-        return judge_image(
-            judge.alloc,
-            judge.instance,
-            &parent.split,
-            child,
-            &walk.cursor.line,
-            walk.cursor.number,
-        );
+        return image_fault(judge, parent, child, &walk.cursor);
     }
     let (h, g) = cell(&parent.split, child);
     let node = child_node(&parent.split, h, g)?;
@@ -294,29 +316,44 @@ fn walk_child<R: BufRead>(
     walk_below(reader, judge, &node, parent.duals, below, walk)
 }
 
-/// Whether a line begins as one of a symmetric image; the first line of a tree does not.
-fn begins_image(line: &[u8]) -> bool
-    ensures { MatchBool result (slice_index line.now 0 ≤ 109) ((slice_index line.now 0 ≢ 109) × (slice_index line.now 0 ≢ 103)) }
+/// The fault of content of a line that begins as one of an image, if it has one.
+fn image_fault(
+    judge: &Judge<'_>,
+    parent: &Parent<'_>,
+    child: usize,
+    cursor: &Cursor,
+) -> Result<Option<ProofError>, ProofError>
+    requires judge { IsJudge judge.now.step judge.now.bound judge.now.below judge.now.cost judge.now.enough }
+    requires parent { IsParent judge.now.instance.now judge.now.below parent.now.split.node.now (under parent.now.duals.now parent.now.form.now) parent.now.split.facilities.now parent.now.split.locations.now parent.now.split.side parent.now.split.own parent.now.threshold }
+    requires child { child + length parent.now.split.node.now.facilities < parent.now.split.node.now.size }
+    ensures judged { IfOk result (λ fault. JudgesImage judge.now.instance.now parent.now.split.node.now parent.now.split.side parent.now.split.own child cursor.now.line.items fault) }
+    ensures refused { IfErr result (RefusesImage parent.now.split.node.now.size child cursor.now.line.items) }
+    ensures class { IfErr result IsReadFault }
 {
-    match line.first() {
-        Some(b'm') | Some(b'g') => true,
-        _ => false,
+    let number = cursor.number;
+    let split = &parent.split;
+    let image = read_image(judge.alloc, &cursor.line, number, split.node.size(), child)?;
+    if is_image(judge.instance, split, child, &image) {
+        Ok(None)
+    } else {
+        Ok(Some(ProofError::NotAnImage(number)))
     }
 }
 
-/// Makes sure that a child reaches the bound without a text, and lists it if it does not reach the cost.
+/// Whether a child reaches the bound without a text; it is listed if it does not reach the cost.
 fn check_closed(
     judge: &Judge<'_>,
     parent: &Parent<'_>,
     child: usize,
     below: &mut Reduced<i128>,
     leaves: &mut Vec<Leaf>,
-) -> Result<(), ProofError>
+) -> Result<bool, AllocError>
     requires judge { IsJudge judge.now.step judge.now.bound judge.now.below judge.now.cost judge.now.enough }
     requires parent { IsParent judge.now.instance.now judge.now.below parent.now.split.node.now (under parent.now.duals.now parent.now.form.now) parent.now.split.facilities.now parent.now.split.locations.now parent.now.split.side parent.now.split.own parent.now.threshold }
     requires child { child + length parent.now.split.node.now.facilities < parent.now.split.node.now.size }
-    ensures refused { IfErr result (λ e. IsClosed judge.now.instance.now judge.now.step judge.now.bound (under parent.now.duals.now parent.now.form.now) (row_of parent.now.split.side parent.now.split.own child) (column_of parent.now.split.side parent.now.split.own child) → IsInterruption e) }
-    ensures closed { OnOk result (PushesLeaf (λ g. IsClosed judge.now.instance.now judge.now.step g (under parent.now.duals.now parent.now.form.now) (row_of parent.now.split.side parent.now.split.own child) (column_of parent.now.split.side parent.now.split.own child)) judge.now.bound judge.now.cost (child_on parent.now.split.side parent.now.split.node.now parent.now.split.own child) leaves.old.items leaves.new.items) }
+    ensures { IfOk result (λ closed. MatchBool closed
+        (PushesLeaf (λ g. IsClosed judge.now.instance.now judge.now.step g (under parent.now.duals.now parent.now.form.now) (row_of parent.now.split.side parent.now.split.own child) (column_of parent.now.split.side parent.now.split.own child)) judge.now.bound judge.now.cost (child_on parent.now.split.side parent.now.split.node.now parent.now.split.own child) leaves.old.items leaves.new.items)
+        (IsClosed judge.now.instance.now judge.now.step judge.now.bound (under parent.now.duals.now parent.now.form.now) (row_of parent.now.split.side parent.now.split.own child) (column_of parent.now.split.side parent.now.split.own child) → ⊥)) }
 {
     let (h, g) = cell(&parent.split, child);
     check_cell(judge, parent, h, g, below, leaves)
@@ -330,28 +367,28 @@ fn check_cell(
     g: usize,
     below: &mut Reduced<i128>,
     leaves: &mut Vec<Leaf>,
-) -> Result<(), ProofError>
+) -> Result<bool, AllocError>
     requires judge { IsJudge judge.now.step judge.now.bound judge.now.below judge.now.cost judge.now.enough }
     requires parent { IsParent judge.now.instance.now judge.now.below parent.now.split.node.now (under parent.now.duals.now parent.now.form.now) parent.now.split.facilities.now parent.now.split.locations.now parent.now.split.side parent.now.split.own parent.now.threshold }
     requires row { h < count_of parent.now.form.now }
     requires column { g < count_of parent.now.form.now }
-    ensures refused { IfErr result (λ e. IsClosed judge.now.instance.now judge.now.step judge.now.bound (under parent.now.duals.now parent.now.form.now) h g → IsInterruption e) }
-    ensures closed { OnOk result (PushesLeaf (λ b. IsClosed judge.now.instance.now judge.now.step b (under parent.now.duals.now parent.now.form.now) h g) judge.now.bound judge.now.cost (child_at parent.now.split.node.now h g) leaves.old.items leaves.new.items) }
+    ensures { IfOk result (λ closed. MatchBool closed
+        (PushesLeaf (λ b. IsClosed judge.now.instance.now judge.now.step b (under parent.now.duals.now parent.now.form.now) h g) judge.now.bound judge.now.cost (child_at parent.now.split.node.now h g) leaves.old.items leaves.new.items)
+        (IsClosed judge.now.instance.now judge.now.step judge.now.bound (under parent.now.duals.now parent.now.form.now) h g → ⊥)) }
 {
     let enough = threshold(judge.enough, parent.duals);
     if parent.form.prunes(h, g, enough) {
-        return Ok(());
+        return Ok(true);
     }
     parent
         .form
         .child(judge.instance, parent.duals, h, g, below)?;
     let value = value_with_minima(judge.alloc, below)?;
     if value > enough {
-        return Ok(());
+        return Ok(true);
     }
     let node = child_node(&parent.split, h, g)?;
-    let fault = ProofError::CutTooLow(parent.line);
-    check_value(judge, parent.duals, value, &node, fault, leaves)
+    check_value(judge, parent.duals, value, &node, leaves)
 }
 
 /// Draws a line.
@@ -365,47 +402,4 @@ fn draw(alloc: Global, form: &mut Reduced<i128>, u: &[i128]) -> Result<(), Alloc
     let mut v = zeros(alloc, form.free())?;
     form.line(u, &mut v);
     Ok(())
-}
-
-/// The place of a number in a list.
-fn place_of(list: &[u16], number: u16) -> Option<usize>
-    ensures { MatchOption result ((place : ℕ) → IsPlaceOf list.now number place → ⊥) (IsPlaceOf list.now number) }
-{
-    for place in 0..list.len() {
-        if list[place] == number {
-            return Some(place);
-        }
-    }
-    None
-}
-
-/// What is reported about a split on what is not free.
-fn taken(side: Side, number: u64) -> ProofError {
-    match side {
-        Side::Facility => ProofError::FacilityTaken(number),
-        Side::Location => ProofError::LocationTaken(number),
-    }
-}
-
-/// The row and the column of the pair that a child places.
-fn cell(split: &SplitOf<'_>, child: usize) -> (usize, usize)
-    ensures row { result.0 ≡ row_of split.now.side split.now.own child }
-    ensures column { result.1 ≡ column_of split.now.side split.now.own child }
-{
-    match split.side {
-        Side::Facility => (split.own, child),
-        Side::Location => (child, split.own),
-    }
-}
-
-/// The node of the child that puts row `h` at column `g`.
-fn child_node(split: &SplitOf<'_>, h: usize, g: usize) -> Result<Partial, AllocError>
-    requires placement { IsPlacement split.now.node.now }
-    requires facilities { split.now.facilities.now ≡ free_facilities split.now.node.now }
-    requires locations { split.now.locations.now ≡ free_locations split.now.node.now }
-    requires row { h < length split.now.facilities.now }
-    requires column { g < length split.now.locations.now }
-    ensures { IfOk result (λ y. y ≡ child_at split.now.node.now h g) }
-{
-    split.node.place(split.facilities[h], split.locations[g])
 }

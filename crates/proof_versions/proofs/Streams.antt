@@ -15,6 +15,7 @@ use Rattle.qap_proof.specs.Cover.{CoverValue, IsCovering, cover_of}
 use Rattle.qap_proof.specs.declared.leaf.Leaf.{Leaf}
 use Rattle.proof_tree.proofs.Leaves.{IsCovering-leaves}
 use Rattle.proof_tree.specs.Claim.{pair_claim}
+use Rattle.proof_check.proofs.Accepting.{RefusesNoProof-pairs}
 use Rattle.proof_check.specs.Acceptance.{ReadsLeaves, ReadsVerdict, ShowsPairVerdict}
 use Rattle.proof_versions.specs.Opening.{PairsOpen}
 use Rattle.proof_versions.specs.OverRoot.{PairProvesFor}
@@ -71,7 +72,7 @@ begun I (Some xs) (Some ys) front e consumed two refuses = record {
   text = xs;
   whole = refl;
   version = subst StatesVersionTwo (sym consumed) (longer front ys two);
-  refuses = refuses xs (ap Some (sym consumed));
+  refuses = λ v shows. RefusesNoProof-pairs I (prepend_known front (Some ys)) e refuses xs v (ap Some (sym consumed)) shows;
 }
 
 -- the text of a checked proof proves what it states

@@ -13,6 +13,7 @@ use Rattle.qap_proof.specs.declared.error.ProofError.TheVariants.{OutOfMemory}
 use Rattle.qap_proof.specs.declared.over_root.Stated.{Stated}
 use Rattle.qap_proof.specs.declared.acceptance.Verdict.{Verdict}
 use Rattle.qap_proof.specs.declared.acceptance.Verdict.TheVariants.{Gap, Optimal, Part}
+use Rattle.proof_check.proofs.Accepting.{RefusesNoProof-pairs}
 use Rattle.proof_check.proofs.Laws.{gap, optimal, part}
 use Rattle.proof_check.specs.Acceptance.{IsPairVerdictOf, ShowsPairVerdict}
 use Rattle.proof_tree.proofs.Validity.{Proves-NoneCompletesForLess}
@@ -120,4 +121,4 @@ opens-first I text (Err e) other (inr refused) = inr (EitherIsRefused-first I te
 pub opens-pairs : (I : Problem) (text : List ℕ) (r : Result CoverValue ProofError) → StatesVersionTwo text → IfOk r (StreamOpens I (Some text)) → IfErr r (StreamRefuses I (Some text))
     → MatchResult r (EitherOpens I text) (λ e. (e ≡ OutOfMemory) ⊎ EitherIsRefused I text e)
 opens-pairs I text (Ok c) two opened refused = inr (subst (λ (t : List ℕ). PairsOpen I t c) (sym opened.whole) opened.opened)
-opens-pairs I text (Err e) two opened refused = inr (refused text refl, inl two)
+opens-pairs I text (Err e) two opened refused = inr (λ v shows. RefusesNoProof-pairs I (Some text) e refused text v refl shows, inl two)

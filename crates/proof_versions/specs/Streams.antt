@@ -9,7 +9,8 @@ use Rattle.qap_proof.specs.declared.error.ProofError.{ProofError}
 use Rattle.proof_versions.specs.Adding.{HasPairPart}
 use Rattle.proof_versions.specs.Opening.{PairsOpen}
 use Rattle.proof_versions.specs.OverRoot.{PairProvesFor}
-use Rattle.proof_versions.specs.Versions.{EitherIsSo, RefusesNoPairs, StatesVersionTwo}
+use Rattle.proof_check.specs.Fault.{IsPairRefusal}
+use Rattle.proof_versions.specs.Versions.{EitherIsSo, StatesVersionTwo}
 
 -- the text, which is all that the reader had if that is known, is that of a proof which establishes the verdict, and the verdict is true
 pub record StreamShows (I : Problem) (known : Option (List ℕ)) (verdict : Verdict) : Type 0 where
@@ -19,9 +20,10 @@ pub record StreamShows (I : Problem) (known : Option (List ℕ)) (verdict : Verd
   pub shows : ShowsPairVerdict I text verdict
   pub so : EitherIsSo I text verdict
 
--- where the bytes are known, a refusal of them is none of a text of a proof with pair duals
+-- where the bytes are known, why they are refused: they are the text of no proof with pair duals; or that of one, but of none that is
+-- valid for the instance; or the check was interrupted
 abbrev pub StreamRefuses : Problem → Option (List ℕ) → ProofError → Type 0
-StreamRefuses I known e = (text : List ℕ) → known ≡ Some text → RefusesNoPairs I text e
+StreamRefuses I known e = (text : List ℕ) → known ≡ Some text → IsPairRefusal I text e
 
 -- the text, which is all that the reader had if that is known, is that of a proof over root x, of cost c and bound g, which it proves
 pub record StreamProves (I : Problem) (known : Option (List ℕ)) (x : Placement) (c g : ℤ) : Type 0 where

@@ -15,7 +15,7 @@ use std::alloc::Global;
 /// for it.
 ///
 /// A text that does not begin with the line of version 2 is checked, and faults are reported, as in
-/// `qap_proof::accept`. For one that does, the first fault that `proof_check::accept` found is reported.
+/// `qap_proof::accept`; one that does, as in `proof_check::accept`.
 pub fn accept(alloc: Global, instance: &Instance, text: &[u8]) -> Result<Verdict, ProofError>
     ensures verdict { MatchResult result
         (EitherShows instance.now text.now)

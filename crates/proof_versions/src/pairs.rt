@@ -30,8 +30,8 @@ pub fn states_version_two(text: &[u8]) -> bool
 
 /// What all that a reader has left establishes about an instance's costs, if it is the text of a proof of version 2 which
 /// proves its bound for it. The text is checked as it is read: only the forms of the nodes above the current line, and
-/// the pair duals in force there, are in memory. The first fault that was found is reported;
-/// the text of a proof which proves its bound has none.
+/// the pair duals in force there, are in memory. Faults are reported as by `proof_check::accept`: every fault of grammar
+/// comes before every fault of content.
 pub fn accept_stream<R: BufRead>(
     alloc: Global,
     instance: &Instance,

@@ -2,7 +2,7 @@
 use Rattle.std.proofs.Common.{◌≡◌, ◌∙◌, ◌≤◌, ◌⊎◌, arith, inl, inr, refl, subst, sym}
 use Rattle.qap_io.specs.declared.status.Status.{Status}
 use Rattle.qap_io.specs.declared.status.Status.TheVariants.{Done, Refused, Usage, OutOfMemory, Unfinished, Stopped}
-use Rattle.qap_plan.specs.Outputs.{EndsWith, IsSuccess, severity}
+use Rattle.plan_files.specs.Outputs.{EndsWith, IsSuccess, severity}
 
 -- a step that did not fail was done, and what it does holds
 pub done_of : (s : Status) (Holds : Type 0) → EndsWith s Holds → IsSuccess s → Holds

@@ -1,5 +1,3 @@
 mod Endings
-mod Kept
-mod Restricted
 mod SplitUps
 mod Starts

@@ -8,11 +8,11 @@ use Rattle.qap_cost.specs.Placement.{Completes, Placement, root_of}
 use Rattle.qap_cost.proofs.Nodes.{root_completed}
 use Rattle.qap_proof.specs.Claim.{NoneCompletesForLess}
 use Rattle.qap_proof.specs.Missing.{IsMissingBounded}
-use Rattle.qap_plan.proofs.Kept.{no_dearer_kept}
-use Rattle.qap_plan.specs.Keeping.{IsNoDearerKept}
+use Rattle.plan_search.proofs.Kept.{no_dearer_kept}
+use Rattle.plan_search.specs.Keeping.{IsNoDearerKept}
 use Rattle.qap_plan.specs.Parts.{IsSplitUp}
 use Rattle.qap_plan.specs.Splitting.{IsSkeleton}
-use Rattle.qap_plan.specs.declared.error.PlannerError.{PlannerError}
+use Rattle.plan_files.specs.declared.error.PlannerError.{PlannerError}
 use Rattle.qap_plan.specs.declared.search.splitting.Skeleton.{Skeleton}
 
 -- where no part is completed for less, that is the least cost, if nothing is placed at the root

@@ -4,7 +4,7 @@ use Rattle.std.specs.Borrow.{Bor}
 use Rattle.qap_cost.specs.Instance.{Problem}
 use Rattle.qap_io.specs.Counting.{CountedDevice}
 use Rattle.qap_text.specs.Input.{input_of}
-use Rattle.qap_plan.specs.Starting.{Begins, IsReaderOf, IsStartOf}
+use Rattle.plan_files.specs.Starting.{Begins, IsReaderOf, IsStartOf}
 
 -- what a reader of these bytes begins with
 pub start_of : (remaining : Bor (List ℕ) → Option (List ℕ)) (I : Problem) (given : Option (List ℕ)) (old new : Option (CountedDevice (Bor (List ℕ)))) (start : Option (List ℕ))

@@ -8,18 +8,18 @@ use Rattle.plan_file.specs.declared.tables.NamedProblem.{NamedProblem}
 use Rattle.plan_input.specs.Loaded.{IsLoaded}
 use Rattle.plan_input.specs.declared.loading.Loaded.{Loaded}
 use Rattle.qap_plan.specs.Answers.{Answers}
-use Rattle.qap_plan.specs.Begun.{IsStartIn}
+use Rattle.plan_files.specs.Begun.{IsStartIn}
 use Rattle.qap_plan.specs.ChargedAnswer.{IsChargedAnswer}
 use Rattle.qap_plan.specs.ChargedOutcome.{TellsCharged}
-use Rattle.qap_plan.specs.Keeping.{IsKept}
+use Rattle.plan_search.specs.Keeping.{IsKept}
 use Rattle.qap_plan.specs.Outcome.{TellsFound, TellsPlan, status_of}
-use Rattle.qap_plan.specs.Planning.{IsPlanned}
-use Rattle.qap_plan.specs.Reading.{HasOneInstance}
-use Rattle.qap_plan.specs.Sources.{IsGivenIn, IsPlain}
-use Rattle.qap_plan.specs.Starting.{IsStartOf}
+use Rattle.plan_search.specs.Planning.{IsPlanned}
+use Rattle.plan_files.specs.Reading.{HasOneInstance}
+use Rattle.plan_files.specs.Sources.{IsGivenIn, IsPlain}
+use Rattle.plan_files.specs.Starting.{IsStartOf}
 use Rattle.qap_plan.specs.declared.commands.charged_answer.ChargedAnswer.{ChargedAnswer}
 use Rattle.qap_plan.specs.declared.commands.command_line.Request.{Request}
-use Rattle.qap_plan.specs.declared.search.planning.Planned.{Planned}
+use Rattle.plan_search.specs.declared.planning.Planned.{Planned}
 
 -- from a sink to a sink by an answer to a problem with names: what a search of the arrangements that respect what is fixed has found from
 -- a start, if there is one, in each output that is requested; and how the run ends

@@ -5,12 +5,12 @@ use Rattle.qap_io.specs.Counting.{CountedDevice}
 use Rattle.qap_io.specs.Writing.{BreaksOff, Sends}
 use Rattle.qap_text.specs.Input.{Input}
 use Rattle.qap_plan.specs.Answer.{answer_text}
-use Rattle.qap_plan.specs.Planning.{IsPlanned}
-use Rattle.qap_plan.specs.Reading.{LacksInstance, HasOneInstance, WantsMemory}
-use Rattle.qap_plan.specs.Starting.{HasNoStart, HasStart, Starting}
-use Rattle.qap_plan.specs.declared.error.PlannerError.{PlannerError}
-use Rattle.qap_plan.specs.declared.error.PlannerError.TheVariants.{Device}
-use Rattle.qap_plan.specs.declared.search.planning.Planned.{Planned}
+use Rattle.plan_search.specs.Planning.{IsPlanned}
+use Rattle.plan_files.specs.Reading.{LacksInstance, HasOneInstance, WantsMemory}
+use Rattle.plan_files.specs.Starting.{HasNoStart, HasStart, Starting}
+use Rattle.plan_files.specs.declared.error.PlannerError.{PlannerError}
+use Rattle.plan_files.specs.declared.error.PlannerError.TheVariants.{Device}
+use Rattle.plan_search.specs.declared.planning.Planned.{Planned}
 
 -- the input has an instance to be searched, and a start if one is requested, and this is what the search has found
 pub record ComesTo {R Q : Type 0} (i : Input R) (s : Starting Q) (passes : Bool) (x : Planned) : Type 0 where

@@ -1,6 +1,6 @@
 -- The outputs of `solve`.
 use Rattle.std.specs.Prelude.{ℕ, List, option_copied}
-use Rattle.qap_plan.specs.Outputs.{PrintsFor, WritesFor}
+use Rattle.plan_files.specs.Outputs.{PrintsFor, WritesFor}
 use Rattle.qap_plan.specs.declared.commands.command_line.Request.{Request}
 use Rattle.qap_plan.specs.declared.output.outcome.Kind.{Kind}
 use Rattle.qap_plan.specs.declared.output.outcome.Kind.TheVariants.{Answer, Json, Table, Picture, Report, Proof}

@@ -1,6 +1,6 @@
 -- The request of a command line.
 use Rattle.std.specs.Prelude.{⊤}
-use Rattle.qap_plan.specs.Options.{AreLimited}
+use Rattle.plan_search.specs.Options.{AreLimited}
 use Rattle.qap_plan.specs.declared.commands.command_line.Task.{Task}
 use Rattle.qap_plan.specs.declared.commands.command_line.Task.TheVariants.{Solve, Split, Part, Convert, Show, Check, Compare}
 

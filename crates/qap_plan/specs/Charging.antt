@@ -9,7 +9,7 @@ use Rattle.plan_charge.specs.Extended.{extended_list}
 use Rattle.plan_charge.specs.Restricted.{Restricts}
 use Rattle.plan_charge.specs.declared.charges.Charges.{Charges}
 use Rattle.plan_charge.specs.declared.forbidden.Forbidden.{Forbidden}
-use Rattle.qap_plan.specs.Keeping.{ProvesKept, ShowsKept}
+use Rattle.plan_search.specs.Keeping.{ProvesKept, ShowsKept}
 
 -- a valid proof for the larger instance over its node, with this permutation and the extra facilities, its cost and this
 -- bound

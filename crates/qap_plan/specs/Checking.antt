@@ -11,7 +11,7 @@ use Rattle.plan_file.specs.declared.tables.NamedProblem.{NamedProblem}
 use Rattle.plan_input.specs.Loaded.{IsLoaded}
 use Rattle.plan_input.specs.declared.loading.Loaded.{Loaded}
 use Rattle.qap_plan.specs.Answer.{cost_line, verdict_line}
-use Rattle.qap_plan.specs.Sources.{IsGivenIn, IsInstanceIn, IsPlain}
+use Rattle.plan_files.specs.Sources.{IsGivenIn, IsInstanceIn, IsPlain}
 use Rattle.qap_plan.specs.declared.commands.check.CheckRequest.{CheckRequest}
 
 -- the line reports what the proof establishes about the permutation's cost

@@ -7,12 +7,12 @@ use Rattle.plan_check.specs.Layout.{IsLayoutOf}
 use Rattle.plan_file.specs.declared.tables.NamedProblem.{NamedProblem}
 use Rattle.plan_input.specs.Loaded.{IsLoaded}
 use Rattle.plan_input.specs.declared.loading.Loaded.{Loaded}
-use Rattle.qap_plan.specs.Keeping.{IsKept}
+use Rattle.plan_search.specs.Keeping.{IsKept}
 use Rattle.qap_plan.specs.Outcome.{status_of}
-use Rattle.qap_plan.specs.Outputs.{WritesFor}
-use Rattle.qap_plan.specs.Sources.{IsPlain, IsTextIn}
+use Rattle.plan_files.specs.Outputs.{WritesFor}
+use Rattle.plan_files.specs.Sources.{IsPlain, IsTextIn}
 use Rattle.qap_plan.specs.declared.commands.compare.CompareRequest.{CompareRequest}
-use Rattle.qap_plan.specs.declared.search.planning.Planned.{Planned}
+use Rattle.plan_search.specs.declared.planning.Planned.{Planned}
 
 -- what a search from today's arrangement has found, and a text on both
 pub record IsComparedIn (P : NamedProblem) (today : List ℕ) (best : Planned) (text : List ℕ) : Type 0 where

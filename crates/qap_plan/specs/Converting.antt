@@ -7,8 +7,8 @@ use Rattle.plan_charge.specs.Restricted.{Restricts}
 use Rattle.plan_check.specs.Answer.{StatesNames}
 use Rattle.plan_input.specs.Loaded.{IsLoaded}
 use Rattle.plan_input.specs.declared.loading.Loaded.{Loaded}
-use Rattle.qap_plan.specs.Outputs.{WritesFor}
-use Rattle.qap_plan.specs.Sources.{IsPlain}
+use Rattle.plan_files.specs.Outputs.{WritesFor}
+use Rattle.plan_files.specs.Sources.{IsPlain}
 use Rattle.qap_plan.specs.declared.commands.convert.ConvertRequest.{ConvertRequest}
 use Rattle.qap_plan.specs.declared.commands.converting.Converted.{Converted}
 

@@ -15,7 +15,7 @@ use Rattle.qap_plan.specs.Answer.{answer_text}
 use Rattle.qap_plan.specs.Picturing.{ShowsVerdict}
 use Rattle.qap_plan.specs.declared.output.outcome.Kind.{Kind}
 use Rattle.qap_plan.specs.declared.output.outcome.Kind.TheVariants.{Answer, Json, Table, Picture, Report as InReport, Proof}
-use Rattle.qap_plan.specs.declared.search.planning.Planned.{Planned}
+use Rattle.plan_search.specs.declared.planning.Planned.{Planned}
 
 -- how a run ends that has found an arrangement with this cost and this bound: early if the bound is smaller
 abbrev pub status_of : ℤ → ℤ → Status

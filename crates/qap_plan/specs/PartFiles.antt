@@ -8,12 +8,12 @@ use Rattle.qap_proof.specs.Text.{IsProofText}
 use Rattle.qap_text.specs.WrittenSolution.{solution_text}
 use Rattle.qap_plan.specs.NodeLines.{node_lines}
 use Rattle.qap_plan.specs.Parts.{IsSplitUp}
-use Rattle.qap_plan.specs.Searched.{IsSearchedIn}
-use Rattle.qap_plan.specs.Starting.{IsSolutionIn}
+use Rattle.plan_files.specs.Searched.{IsSearchedIn}
+use Rattle.plan_files.specs.Starting.{IsSolutionIn}
 use Rattle.qap_plan.specs.declared.commands.split.PartFiles.{PartFiles}
 use Rattle.qap_plan.specs.declared.commands.split.PartTexts.{PartTexts}
 use Rattle.qap_plan.specs.declared.commands.split.SplitRequest.{SplitRequest}
-use Rattle.qap_plan.specs.declared.input.instance_file.Searched.{Searched}
+use Rattle.plan_files.specs.declared.instance_file.Searched.{Searched}
 use Rattle.qap_plan.specs.declared.search.splitting.Skeleton.{Skeleton}
 
 -- a name is that of a file in a folder

@@ -5,8 +5,8 @@ use Rattle.qap_cost.specs.Objective.{IsLeast}
 use Rattle.qap_cost.specs.Placement.{Placement, root_of}
 use Rattle.qap_proof.specs.Claim.{NoneCompletesForLess}
 use Rattle.qap_proof.specs.Missing.{AreMissing, IsMissingBounded}
-use Rattle.qap_plan.specs.Keeping.{IsNoDearerKept}
-use Rattle.qap_plan.specs.Planning.{ProvesOver}
+use Rattle.plan_search.specs.Keeping.{IsNoDearerKept}
+use Rattle.plan_search.specs.Planning.{ProvesOver}
 use Rattle.qap_plan.specs.declared.search.splitting.Skeleton.{Skeleton}
 
 -- a valid proof over the root, whose permutation costs no more than the start, if there is one that completes the root; the parts

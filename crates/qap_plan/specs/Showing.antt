@@ -6,9 +6,9 @@ use Rattle.plan_check.specs.Answer.{IsAnswerToInstance, IsAnswerToPlan}
 use Rattle.plan_input.specs.Loaded.{IsLoaded}
 use Rattle.plan_input.specs.declared.loading.Loaded.{Loaded}
 use Rattle.qap_plan.specs.Answer.{stated_text}
-use Rattle.qap_plan.specs.Outputs.{WritesFor}
+use Rattle.plan_files.specs.Outputs.{WritesFor}
 use Rattle.qap_plan.specs.Picturing.{Pictures}
-use Rattle.qap_plan.specs.Sources.{IsInstanceIn, IsPlain}
+use Rattle.plan_files.specs.Sources.{IsInstanceIn, IsPlain}
 use Rattle.qap_plan.specs.declared.commands.show.ShowRequest.{ShowRequest}
 
 -- from a sink to a sink by words, which are printed, a picture, and the same words in a file, where these are requested

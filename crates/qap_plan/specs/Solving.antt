@@ -5,15 +5,15 @@ use Rattle.qap_io.specs.declared.status.Status.{Status}
 use Rattle.qap_proof.specs.NodeText.{node_text}
 use Rattle.qap_proof.specs.declared.over_root.Stated.{Stated}
 use Rattle.qap_plan.specs.Answer.{part_line}
-use Rattle.qap_plan.specs.Keeping.{IsSearched}
+use Rattle.plan_search.specs.Keeping.{IsSearched}
 use Rattle.qap_plan.specs.Outcome.{IsTextOfProof, status_of}
-use Rattle.qap_plan.specs.Planning.{ProvesOver, ShowsOver}
-use Rattle.qap_plan.specs.Searched.{IsSearchedIn}
-use Rattle.qap_plan.specs.Standing.{IsStanding}
-use Rattle.qap_plan.specs.Starting.{IsSolutionIn}
+use Rattle.plan_search.specs.Planning.{ProvesOver, ShowsOver}
+use Rattle.plan_files.specs.Searched.{IsSearchedIn}
+use Rattle.plan_search.specs.Standing.{IsStanding}
+use Rattle.plan_files.specs.Starting.{IsSolutionIn}
 use Rattle.qap_plan.specs.declared.commands.part.PartRequest.{PartRequest}
 use Rattle.qap_plan.specs.declared.commands.part.Posed.{Posed}
-use Rattle.qap_plan.specs.declared.search.planning.Planned.{Planned}
+use Rattle.plan_search.specs.declared.planning.Planned.{Planned}
 
 -- the part is the node that is spelled, of what is read from one file, and the start is that in another
 pub record IsPosed (Holds : List ℕ → List ℕ → Type 0) (r : PartRequest) (p : Posed) : Type 0 where

@@ -2,9 +2,6 @@
 #![tactic(auto)]
 
 mod commands;
-mod error;
-mod files;
-mod input;
 mod output;
 mod search;
 
@@ -19,10 +16,9 @@ use crate::commands::show::run_show;
 use crate::commands::solve::solve_plan;
 use crate::commands::solve_instance::solve;
 use crate::commands::split::run_split;
-use crate::error::PlannerError;
-use crate::files::refusal::refuse_with;
 use clap::Error;
 use clap::error::ErrorKind;
+use plan_files::{PlannerError, refuse_with};
 use plan_input::is_plan;
 use qap_io::Status;
 use std::process::ExitCode;

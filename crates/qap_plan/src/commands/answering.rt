@@ -3,17 +3,12 @@
 ghost use Rattle.std.specs.Prelude.{MatchResult, ◌≡◌};
 ghost use Rattle.qap_text.specs.Input.{input_of};
 ghost use Rattle.qap_plan.specs.Answering.{HasAnswered, HasNotAnswered};
-ghost use Rattle.qap_plan.specs.Options.{AreLimited};
-ghost use Rattle.qap_plan.specs.Starting.{starting_of};
+ghost use Rattle.plan_search.specs.Options.{AreLimited};
+ghost use Rattle.plan_files.specs.Starting.{starting_of};
 
-use crate::error::PlannerError;
-use crate::input::reading::read_problem;
-use crate::input::starting::read_start;
 use crate::output::answer::answer_text;
-use crate::search::keeper::Keeper;
-use crate::search::options::Options;
-use crate::search::planning::Planned;
-use crate::search::searching::search;
+use plan_files::{PlannerError, read_problem, read_start};
+use plan_search::{Keeper, Options, Planned, search};
 use qap_io::{Counted, send};
 use std::alloc::Global;
 use std::io::{Read, Write};

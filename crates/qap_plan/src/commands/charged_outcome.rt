@@ -7,15 +7,15 @@ ghost use Rattle.qap_plan.specs.ChargedOutcome.{PicturesCharged, TellsCharged};
 ghost use Rattle.qap_plan.specs.Outcome.{status_of as status_for};
 
 use crate::commands::charged_answer::ChargedAnswer;
-use crate::error::PlannerError;
 use crate::output::json::charged_json_text;
-use crate::output::outcome::{Kind, Outcome};
+use crate::output::outcome::{Kind, Outcome, status_of};
 use crate::output::picturing::{captioned_picture, drawn_of};
 use crate::output::plan_outcome::table_text;
 use crate::output::proof_file::proof_text;
-use crate::search::planning::{Planned, status_of};
 use plan_answer::charged_verdict;
+use plan_files::PlannerError;
 use plan_input::Loaded;
+use plan_search::Planned;
 use qap_io::Status;
 use std::alloc::Global;
 

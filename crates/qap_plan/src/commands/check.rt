@@ -3,17 +3,13 @@
 ghost use Rattle.std.specs.Prelude.{◌≡◌, IfOk, option_copied, option_map};
 ghost use Rattle.qap_io.specs.declared.status.Status.TheVariants.{Done};
 ghost use Rattle.qap_plan.specs.Checking.{ConfirmsNumbersIn, ConfirmsPlanIn};
-ghost use Rattle.qap_plan.specs.Sources.{IsGivenIn};
+ghost use Rattle.plan_files.specs.Sources.{IsGivenIn};
 
 use crate::commands::checking::{CheckFault, confirmed_numbers, confirmed_plan};
 use crate::commands::command_line::ignore_rest;
 use crate::commands::show::with_answer;
-use crate::files::outputs::Outputs;
-use crate::files::refusal::{Misuse, Refusal, ended};
-use crate::files::sink::Sink;
-use crate::input::file_bytes::bytes_in;
-use crate::input::instance_file::{instance_in, is_plain, plan_in};
 use clap::{Arg, ArgMatches, Command};
+use plan_files::{Misuse, Outputs, Refusal, Sink, bytes_in, ended, instance_in, is_plain, plan_in};
 use plan_input::{Disk, Texts, is_plan};
 use qap_io::Status;
 use std::alloc::{AllocError, Global};

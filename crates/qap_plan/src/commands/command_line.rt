@@ -2,7 +2,7 @@
 
 ghost use Rattle.std.specs.Prelude.{IfOk, IfSome};
 ghost use Rattle.qap_plan.specs.Asking.{IsLimitedTask};
-ghost use Rattle.qap_plan.specs.Options.{AreLimited};
+ghost use Rattle.plan_search.specs.Options.{AreLimited};
 
 use crate::commands::check::{CheckRequest, check_command, check_request};
 use crate::commands::compare::{CompareRequest, compare_command, compare_request};
@@ -11,9 +11,9 @@ use crate::commands::duration::milliseconds_of;
 use crate::commands::part::{PartRequest, part_command, part_request};
 use crate::commands::show::{ShowRequest, show_command, show_request};
 use crate::commands::split::{SplitRequest, split_command, split_request};
-use crate::search::options::{MAX_NODES, MAX_WORKERS, Options};
 use clap::error::ErrorKind;
 use clap::{Arg, ArgAction, ArgMatches, Command, Error, value_parser};
+use plan_search::{MAX_NODES, MAX_WORKERS, Options};
 use qap_command::VERSION;
 use std::alloc::{AllocError, Global};
 
@@ -39,11 +39,17 @@ pub struct Request<'a> {
     pub report: Option<&'a str>,
     /// Whether to write nothing to standard output.
     pub quiet: bool,
-    /// Whether to report progress on standard error even if that is not a terminal.
-    pub progress: bool,
+    /// How many columns a line of progress on standard error may have; `None` if none is to be reported.
+    pub columns: Option<usize>,
     /// The file whose being there stops the search.
     pub stop_file: Option<&'a str>,
 }
+
+/// When progress may be reported.
+static WHENS: [&str; 2] = ["auto", NEVER];
+
+/// The word that asks for none.
+const NEVER: &str = "never";
 
 /// The request of a command line.
 #[derive(Clone, Copy)]
@@ -241,10 +247,23 @@ pub(crate) fn with_limits<'a>(
         .arg(
             Arg::new(alloc, "progress")
                 .long("progress")
-                .action(ArgAction::SetTrue)
+                .value_name("WHEN")
+                .num_args(0..=1)
+                .default_missing_value("auto")
+                .default_value("auto")
+                .value_parser(WHENS.as_slice())
                 .help(
-                    "report progress every ten seconds, even if standard error is not a terminal",
+                    "report progress on standard error: in a line on a terminal, and elsewhere every ten seconds",
                 ),
+        )?
+        .arg(
+            Arg::new(alloc, "columns")
+                .long("columns")
+                .value_name("N")
+                .value_parser(value_parser!(u16))
+                .default_value("79")
+                .hide(true)
+                .help("the greatest width of a line of progress"),
         )?
         .arg(
             Arg::new(alloc, "stop-file")
@@ -252,6 +271,15 @@ pub(crate) fn with_limits<'a>(
                 .value_name("FILE")
                 .help("stop, with the answer so far, once this file is there"),
         )
+}
+
+/// How many columns a line of progress may have; `None` if none is to be reported.
+pub(crate) fn columns_in(found: &ArgMatches<'_>) -> Option<usize> {
+    if found.get_str("progress") == Some(NEVER) {
+        return None;
+    }
+    let columns: u16 = found.get_one("columns")?;
+    Some(usize::from(columns))
 }
 
 /// The command with the options of a tabu search.
@@ -315,7 +343,7 @@ fn request_of<'a>(found: &ArgMatches<'a>) -> Option<Request<'a>>
         svg: found.get_str("svg"),
         report: found.get_str("report"),
         quiet: found.get_flag("quiet"),
-        progress: found.get_flag("progress"),
+        columns: columns_in(found),
         stop_file: found.get_str("stop-file"),
     })
 }

@@ -5,28 +5,22 @@ ghost use Rattle.plan_answer.specs.Layout.{layout_text};
 ghost use Rattle.plan_file.specs.Tables.{HasSizes};
 ghost use Rattle.qap_cost.specs.Placement.{Completes};
 ghost use Rattle.qap_plan.specs.Comparing.{Compares, ComparesFrom, IsComparedIn, TellsComparison};
-ghost use Rattle.qap_plan.specs.Options.{AreLimited};
-ghost use Rattle.qap_plan.specs.Outputs.{EndsWith, IsSuccess, WritesFor};
+ghost use Rattle.plan_search.specs.Options.{AreLimited};
+ghost use Rattle.plan_files.specs.Outputs.{EndsWith, IsSuccess, WritesFor};
 
-use crate::commands::command_line::{options_of, with_improvement, with_limits};
-use crate::error::PlannerError;
-use crate::files::outputs::{Outputs, worse};
-use crate::files::refusal::{Misuse, Refusal, ended};
-use crate::files::sink::Sink;
-use crate::input::file_bytes::text_in;
-use crate::input::instance_file::{cost_decimals, inputs_of, is_plain, plan_in};
-use crate::input::layout_file::layout_in;
+use crate::commands::command_line::{columns_in, options_of, with_improvement, with_limits};
+use crate::output::outcome::status_of;
 use crate::output::plan_outcome::table_text;
 use crate::output::progress::{Teller, telling_of};
-use crate::search::keeper::Keeper;
-use crate::search::options::Options;
-use crate::search::planning::{Planned, status_of};
-use crate::search::run_clock::RunClock;
-use crate::search::searching::search_keeping;
 use clap::{Arg, ArgMatches, Command};
 use plan_answer::compared_text;
 use plan_file::NamedProblem;
+use plan_files::{
+    Misuse, Outputs, PlannerError, Refusal, Sink, cost_decimals, ended, inputs_of, is_plain,
+    layout_in, plan_in, text_in, worse,
+};
 use plan_input::{Disk, Loaded, Texts, is_plan, notes_of};
+use plan_search::{Keeper, Options, Planned, RunClock, search_keeping};
 use qap_cost::Perm;
 use qap_io::Status;
 use std::alloc::{AllocError, Global};
@@ -45,8 +39,8 @@ pub struct CompareRequest<'a> {
     pub options: Options,
     /// The file that the best arrangement is written to, as a table.
     pub csv: Option<&'a str>,
-    /// Whether to report progress on standard error even if that is not a terminal.
-    pub progress: bool,
+    /// How many columns a line of progress on standard error may have; `None` if none is to be reported.
+    pub columns: Option<usize>,
     /// The file whose being there stops the search.
     pub stop_file: Option<&'a str>,
 }
@@ -81,7 +75,7 @@ pub fn compare_request<'a>(found: &ArgMatches<'a>) -> Option<CompareRequest<'a>>
         today: found.get_str("TODAY")?,
         options: options_of(found, false, false)?,
         csv: found.get_str("csv"),
-        progress: found.get_flag("progress"),
+        columns: columns_in(found),
         stop_file: found.get_str("stop-file"),
     })
 }
@@ -93,7 +87,7 @@ where
     requires { AreLimited request.now.options }
 {
     let clock = RunClock::new(system, request.options.milliseconds);
-    let telling = telling_of(rt, request.progress);
+    let telling = telling_of(rt, request.columns);
     let teller = Teller::new(rt, &clock, telling, request.stop_file);
     let mut outputs = Outputs::new(rt);
     let texts = Disk { files: rt };

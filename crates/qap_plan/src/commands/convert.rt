@@ -3,15 +3,11 @@
 ghost use Rattle.std.specs.Prelude.{◌≡◌, IfOk, None, Some, if◌then◌else◌, option_copied, string_bytes};
 ghost use Rattle.qap_io.specs.declared.status.Status.TheVariants.{Done};
 ghost use Rattle.qap_plan.specs.Converting.{Converts, WritesConverted, names_file};
-ghost use Rattle.qap_plan.specs.Outputs.{EndsWith, WritesFor};
+ghost use Rattle.plan_files.specs.Outputs.{EndsWith, WritesFor};
 
 use crate::commands::converting::{Converted, converted_texts};
-use crate::error::PlannerError;
-use crate::files::outputs::Outputs;
-use crate::files::refusal::{Misuse, Refusal, ended};
-use crate::files::sink::Sink;
-use crate::input::instance_file::{inputs_of, plan_in};
 use clap::{Arg, ArgMatches, Command};
+use plan_files::{Misuse, Outputs, PlannerError, Refusal, Sink, ended, inputs_of, plan_in};
 use plan_input::{Disk, Texts, is_plan};
 use qap_io::Status;
 use std::alloc::{AllocError, Global};

@@ -7,12 +7,10 @@ ghost use Rattle.plan_check.specs.Answer.{StatesNames};
 ghost use Rattle.plan_file.specs.Tables.{HasSizes};
 ghost use Rattle.qap_plan.specs.Converting.{IsConverted, IsInstanceOf};
 
-use crate::error::PlannerError;
-use crate::input::instance_file::is_plain;
-use crate::input::restriction::{Restriction, widened};
 use crate::output::json::names_text;
 use plan_check::states_names;
 use plan_file::NamedProblem;
+use plan_files::{PlannerError, Restriction, is_plain, widened};
 use plan_input::Loaded;
 use qap_text::text_of_instance;
 use std::alloc::{AllocError, Global};

@@ -2,14 +2,12 @@
 
 ghost use Rattle.std.specs.Prelude.{◌≡◌, ◌≤◌, option_copied};
 ghost use Rattle.qap_plan.specs.Answers.{Answers};
-ghost use Rattle.qap_plan.specs.Outputs.{EndsWith, IsSuccess, PrintsFor, WritesFor, severity};
+ghost use Rattle.plan_files.specs.Outputs.{EndsWith, IsSuccess, PrintsFor, WritesFor, severity};
 ghost use Rattle.qap_plan.specs.declared.output.outcome.Kind.TheVariants.{Answer};
 
 use crate::commands::command_line::Request;
-use crate::error::PlannerError;
-use crate::files::outputs::worse;
-use crate::files::sink::Sink;
 use crate::output::outcome::{Kind, Outcome};
+use plan_files::{PlannerError, Sink, worse};
 use qap_io::Status;
 use std::alloc::Global;
 

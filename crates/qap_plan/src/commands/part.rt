@@ -4,30 +4,24 @@ ghost use Rattle.std.specs.Prelude.{IfOk, IfSome, None, string_bytes, ◌≡◌,
 ghost use Rattle.qap_cost.specs.Objective.{Permutes};
 ghost use Rattle.qap_proof.specs.Claim.{IsRoot};
 ghost use Rattle.qap_plan.specs.Answer.{part_line};
-ghost use Rattle.qap_plan.specs.Options.{AreLimited};
+ghost use Rattle.plan_search.specs.Options.{AreLimited};
 ghost use Rattle.qap_plan.specs.Outcome.{status_of as status_for};
-ghost use Rattle.qap_plan.specs.Outputs.{IsSuccess, severity};
+ghost use Rattle.plan_files.specs.Outputs.{IsSuccess, severity};
 ghost use Rattle.qap_plan.specs.Solving.{FindsPart, IsPosed, IsSolved, SolvesPart, Stands, TellsKept, TellsPart, WritesPart};
 
-use crate::commands::command_line::{ignore_rest, time_limit, with_limits};
-use crate::error::PlannerError;
-use crate::files::outputs::{Outputs, worse};
-use crate::files::refusal::{Refusal, ended};
-use crate::files::sink::Sink;
-use crate::input::file_bytes::bytes_in;
-use crate::input::instance_file::{Searched, searched_in};
-use crate::input::starting::permutation_in;
+use crate::commands::command_line::{columns_in, ignore_rest, time_limit, with_limits};
+use crate::output::outcome::status_of;
 use crate::output::progress::{Teller, telling_of};
 use crate::output::proof_file::proof_text;
-use crate::search::keeper::Keeper;
-use crate::search::memory_limit::WithinMemory;
-use crate::search::options::{MAX_WORKERS, Options};
-use crate::search::planning::{Planned, status_of};
-use crate::search::proving::prove_below;
-use crate::search::run_clock::RunClock;
-use crate::search::standing::standing_proof;
 use clap::{Arg, ArgMatches, Command};
+use plan_files::{
+    Outputs, PlannerError, Refusal, Searched, Sink, bytes_in, ended, permutation_in, searched_in,
+    worse,
+};
 use plan_input::{Disk, Texts};
+use plan_search::{
+    Keeper, MAX_WORKERS, Options, Planned, RunClock, WithinMemory, prove_below, standing_proof,
+};
 use qap_cost::{Partial, Perm, cost};
 use qap_io::Status;
 use qap_proof::{Stated, read_node_text};
@@ -49,8 +43,8 @@ pub struct PartRequest<'a> {
     pub options: Options,
     /// The file that the proof is written to.
     pub proof: &'a str,
-    /// Whether to report progress on standard error even if that is not a terminal.
-    pub progress: bool,
+    /// How many columns a line of progress on standard error may have; `None` if none is to be reported.
+    pub columns: Option<usize>,
     /// The file whose being there stops the search.
     pub stop_file: Option<&'a str>,
 }
@@ -114,7 +108,7 @@ pub fn part_request<'a>(found: &ArgMatches<'a>) -> Option<PartRequest<'a>>
             proves: true,
         },
         proof: found.get_str("out")?,
-        progress: found.get_flag("progress"),
+        columns: columns_in(found),
         stop_file: found.get_str("stop-file"),
     })
 }
@@ -126,7 +120,7 @@ where
     requires { AreLimited request.now.options }
 {
     let clock = RunClock::new(system, request.options.milliseconds);
-    let telling = telling_of(rt, request.progress);
+    let telling = telling_of(rt, request.columns);
     let teller = Teller::new(rt, &clock, telling, request.stop_file);
     let mut outputs = Outputs::new(rt);
     let texts = Disk { files: rt };

@@ -6,23 +6,21 @@ ghost use Rattle.plan_file.specs.Tables.{HasSizes};
 ghost use Rattle.qap_cost.specs.Placement.{Completes};
 ghost use Rattle.qap_io.specs.declared.status.Status.TheVariants.{Done};
 ghost use Rattle.qap_plan.specs.Answer.{stated_text as text_of_numbers};
-ghost use Rattle.qap_plan.specs.Outputs.{EndsWith, WritesFor};
+ghost use Rattle.plan_files.specs.Outputs.{EndsWith, WritesFor};
 ghost use Rattle.qap_plan.specs.Picturing.{Pictures, ShowsStated};
 ghost use Rattle.qap_plan.specs.Showing.{Repeats, RepeatsNumbers, RepeatsPlan, RepeatsWords};
 
 use crate::commands::command_line::ignore_rest;
-use crate::error::PlannerError;
-use crate::files::outputs::{Outputs, worse};
-use crate::files::refusal::{Misuse, Refusal, ended};
-use crate::files::sink::Sink;
-use crate::input::file_bytes::bytes_in;
-use crate::input::instance_file::{inputs_of, instance_in, is_plain, plan_in};
 use crate::output::answer::stated_text as numbers_text;
 use crate::output::picturing::{Drawn, captioned_picture, drawn_of};
 use clap::{Arg, ArgMatches, Command};
 use plan_answer::{stated_line, stated_text};
 use plan_check::{Answer, answer_to_instance, answer_to_plan};
 use plan_file::NamedProblem;
+use plan_files::{
+    Misuse, Outputs, PlannerError, Refusal, Sink, bytes_in, ended, inputs_of, instance_in,
+    is_plain, plan_in, worse,
+};
 use plan_input::{Disk, Texts, is_plan};
 use qap_io::Status;
 use std::alloc::{AllocError, Global};

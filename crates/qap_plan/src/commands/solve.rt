@@ -3,29 +3,23 @@
 ghost use Rattle.std.specs.Prelude.{IfOk, IfSome, length, ◌≡◌};
 ghost use Rattle.plan_file.specs.Tables.{HasSizes};
 ghost use Rattle.qap_plan.specs.Answered.{AnswersPlan, IsAnsweredPlan, TellsAnswer};
-ghost use Rattle.qap_plan.specs.Keeping.{IsKept};
-ghost use Rattle.qap_plan.specs.Options.{AreLimited};
-ghost use Rattle.qap_plan.specs.Outputs.{IsSuccess};
+ghost use Rattle.plan_search.specs.Keeping.{IsKept};
+ghost use Rattle.plan_search.specs.Options.{AreLimited};
+ghost use Rattle.plan_files.specs.Outputs.{IsSuccess};
 
 use crate::commands::command_line::Request;
 use crate::commands::compare::note_all;
 use crate::commands::ending::write_outputs;
 use crate::commands::solve_restricted::solve_restricted;
-use crate::error::PlannerError;
-use crate::files::outputs::Outputs;
-use crate::files::refusal::{Refusal, ended};
-use crate::files::sink::Sink;
-use crate::input::instance_file::{cost_decimals, inputs_of, is_plain, plan_in};
-use crate::input::layout_file::start_in;
 use crate::output::plan_outcome::PlanOutcome;
 use crate::output::progress::{Teller, telling_of};
-use crate::search::keeper::Keeper;
-use crate::search::options::Options;
-use crate::search::planning::Planned;
-use crate::search::run_clock::RunClock;
-use crate::search::searching::search_keeping;
 use plan_file::NamedProblem;
+use plan_files::{
+    Outputs, PlannerError, Refusal, Sink, cost_decimals, ended, inputs_of, is_plain, plan_in,
+    start_in,
+};
 use plan_input::{Disk, Loaded, Texts};
+use plan_search::{Keeper, Options, Planned, RunClock, search_keeping};
 use qap_cost::Perm;
 use qap_io::Status;
 use std::alloc::{AllocError, Global};
@@ -41,7 +35,7 @@ where
     requires { AreLimited request.now.options }
 {
     let clock = RunClock::new(system, request.options.milliseconds);
-    let telling = telling_of(rt, request.progress);
+    let telling = telling_of(rt, request.columns);
     let teller = Teller::new(rt, &clock, telling, request.stop_file);
     let mut outputs = Outputs::new(rt);
     let texts = Disk { files: rt };

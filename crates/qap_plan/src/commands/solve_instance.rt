@@ -2,25 +2,19 @@
 
 ghost use Rattle.std.specs.Prelude.{IfOk, option_copied, option_map};
 ghost use Rattle.qap_plan.specs.Answered.{AnswersInstance, HasFoundIn};
-ghost use Rattle.qap_plan.specs.Options.{AreLimited};
-ghost use Rattle.qap_plan.specs.Outputs.{IsSuccess};
-ghost use Rattle.qap_plan.specs.Sources.{IsGivenIn};
-ghost use Rattle.qap_plan.specs.Starting.{IsReaderOf};
+ghost use Rattle.plan_search.specs.Options.{AreLimited};
+ghost use Rattle.plan_files.specs.Outputs.{IsSuccess};
+ghost use Rattle.plan_files.specs.Sources.{IsGivenIn};
+ghost use Rattle.plan_files.specs.Starting.{IsReaderOf};
 
 use crate::commands::answering::plan_stream;
 use crate::commands::command_line::Request;
 use crate::commands::ending::{faulty_file, write_outputs};
-use crate::error::PlannerError;
-use crate::files::outputs::Outputs;
-use crate::files::refusal::{Misuse, Refusal, ended};
-use crate::files::sink::Sink;
-use crate::input::file_bytes::bytes_in;
 use crate::output::found_outcome::FoundOutcome;
 use crate::output::progress::{Teller, telling_of};
-use crate::search::keeper::Keeper;
-use crate::search::planning::Planned;
-use crate::search::run_clock::RunClock;
+use plan_files::{Misuse, Outputs, PlannerError, Refusal, Sink, bytes_in, ended};
 use plan_input::{Disk, Texts};
+use plan_search::{Keeper, Planned, RunClock};
 use qap_io::{Counted, Status};
 use std::alloc::Global;
 use std::process::ExitCode;
@@ -35,7 +29,7 @@ where
     requires { AreLimited request.now.options }
 {
     let clock = RunClock::new(system, request.options.milliseconds);
-    let telling = telling_of(rt, request.progress);
+    let telling = telling_of(rt, request.columns);
     let teller = Teller::new(rt, &clock, telling, request.stop_file);
     let mut outputs = Outputs::new(rt);
     let texts = Disk { files: rt };

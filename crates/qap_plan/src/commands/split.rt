@@ -2,29 +2,24 @@
 
 ghost use Rattle.std.specs.Prelude.{IfOk, IfSome, length, option_copied, string_bytes, ◌≡◌};
 ghost use Rattle.qap_cost.specs.Objective.{Permutes};
-ghost use Rattle.qap_plan.specs.Options.{AreLimited};
-ghost use Rattle.qap_plan.specs.Outputs.{EndsWith, IsSuccess};
+ghost use Rattle.plan_search.specs.Options.{AreLimited};
+ghost use Rattle.plan_files.specs.Outputs.{EndsWith, IsSuccess};
 ghost use Rattle.qap_plan.specs.PartFiles.{ArePartFiles, AreTextsOf, BeginsIn, IsFileIn, SplitsUp, TellsSplit, WritesParts, split_line, split_status};
-ghost use Rattle.qap_plan.specs.Starting.{IsSolutionIn};
+ghost use Rattle.plan_files.specs.Starting.{IsSolutionIn};
 ghost use Rattle.qap_text.specs.WrittenSolution.{solution_text};
 
 use crate::commands::command_line::{ignore_rest, time_limit, with_improvement, with_start};
 use crate::commands::solve::copy_of;
-use crate::error::PlannerError;
-use crate::files::outputs::{Outputs, worse};
-use crate::files::refusal::{Refusal, ended};
-use crate::files::sink::Sink;
-use crate::input::file_bytes::bytes_in;
-use crate::input::instance_file::{Searched, searched_in};
-use crate::input::starting::permutation_in;
 use crate::output::node_lines::lines_of_parts;
 use crate::output::proof_file::text_of_proof;
-use crate::search::keeper::Keeper;
-use crate::search::options::{MAX_NODES, Options};
-use crate::search::run_clock::RunClock;
 use crate::search::splitting::{Skeleton, split_up};
 use clap::{Arg, ArgMatches, Command, value_parser};
+use plan_files::{
+    Outputs, PlannerError, Refusal, Searched, Sink, bytes_in, ended, permutation_in, searched_in,
+    worse,
+};
 use plan_input::{Disk, Texts};
+use plan_search::{Keeper, MAX_NODES, Options, RunClock};
 use qap_cost::{Instance, Perm};
 use qap_io::{Counted, Status};
 use qap_text::write_solution;

@@ -4,12 +4,12 @@ ghost use Rattle.std.specs.Prelude.{IfOk, ⊤, ◌≡◌};
 ghost use Rattle.qap_plan.specs.Answer.{answer_text as text_of_answer};
 ghost use Rattle.qap_plan.specs.Outcome.{TellsFound, status_of as status_for};
 
-use crate::error::PlannerError;
 use crate::output::answer::answer_text;
 use crate::output::json::json_text;
-use crate::output::outcome::{Kind, Outcome};
+use crate::output::outcome::{Kind, Outcome, status_of};
 use crate::output::proof_file::proof_text;
-use crate::search::planning::{Planned, status_of};
+use plan_files::PlannerError;
+use plan_search::Planned;
 use qap_io::Status;
 use std::alloc::Global;
 

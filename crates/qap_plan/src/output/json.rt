@@ -6,11 +6,11 @@ ghost use Rattle.plan_check.specs.Answer.{StatesFound, StatesPlanned};
 ghost use Rattle.plan_file.specs.Tables.{HasSizes};
 ghost use Rattle.qap_cost.specs.Placement.{Completes};
 
-use crate::error::PlannerError;
-use crate::search::planning::Planned;
 use plan_answer::{CostParts, cost_text, dearest_pairs, gap_text};
 use plan_check::{states_found, states_planned};
 use plan_file::NamedProblem;
+use plan_files::PlannerError;
+use plan_search::Planned;
 use qap_command::VERSION;
 use qap_cost::Perm;
 use serde_json::{Map, Value, json};

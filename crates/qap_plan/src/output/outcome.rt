@@ -2,10 +2,11 @@
 
 ghost use Rattle.std.specs.Prelude.{◌≡◌, ℕ, IfOk, List};
 ghost use Rattle.qap_io.specs.declared.status.Status.{Status};
-ghost use Rattle.qap_plan.specs.Outputs.{IsSuccess};
+ghost use Rattle.qap_plan.specs.Outcome.{status_of as status_for};
+ghost use Rattle.plan_files.specs.Outputs.{IsSuccess};
 ghost use Rattle.qap_plan.specs.declared.output.outcome.Kind.{Kind};
 
-use crate::error::PlannerError;
+use plan_files::PlannerError;
 use qap_io::Status;
 use std::alloc::Global;
 
@@ -40,4 +41,16 @@ pub trait Outcome {
     fn status(&self) -> Status
         ensures ends { result ≡ ends self.now }
         ensures success { IsSuccess result };
+}
+
+/// How a run ends that has found an arrangement with this cost and this bound.
+pub fn status_of(cost: i128, bound: i128) -> Status
+    ensures value { result ≡ status_for cost bound }
+    ensures success { IsSuccess result }
+{
+    if bound < cost {
+        Status::Stopped
+    } else {
+        Status::Done
+    }
 }

@@ -8,13 +8,13 @@ ghost use Rattle.plan_report.specs.declared.page.Report.{Report};
 ghost use Rattle.qap_cost.specs.Placement.{Completes};
 ghost use Rattle.qap_plan.specs.Picturing.{ShowsVerdict};
 
-use crate::error::PlannerError;
-use crate::search::planning::Planned;
 use plan_answer::{compared_text, verdict_text};
 use plan_file::{NamedProblem, YAxis};
+use plan_files::PlannerError;
 use plan_input::Loaded;
 use plan_picture::{Caption, picture};
 use plan_report::{Report, report_page};
+use plan_search::Planned;
 use qap_command::VERSION;
 use qap_cost::Perm;
 use std::alloc::{AllocError, Global};

@@ -8,15 +8,15 @@ ghost use Rattle.qap_cost.specs.Placement.{Completes};
 ghost use Rattle.qap_plan.specs.Outcome.{TellsPlan, status_of as status_for};
 ghost use Rattle.qap_plan.specs.Picturing.{ShowsVerdict};
 
-use crate::error::PlannerError;
 use crate::output::json::named_json_text;
-use crate::output::outcome::{Kind, Outcome};
+use crate::output::outcome::{Kind, Outcome, status_of};
 use crate::output::picturing::{drawn_of, proved_picture, report_text};
 use crate::output::proof_file::proof_text;
-use crate::search::planning::{Planned, status_of};
 use plan_answer::{answer_text, layout_text};
 use plan_file::NamedProblem;
+use plan_files::PlannerError;
 use plan_input::Loaded;
+use plan_search::Planned;
 use qap_cost::Perm;
 use qap_io::Status;
 use std::alloc::Global;

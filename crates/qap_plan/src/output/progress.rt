@@ -1,9 +1,8 @@
 //! Reports on standard error how far a search has come.
 
 use crate::output::resident::{resident_bytes, usable_bytes};
-use crate::search::keeper::{Keeper, Progress};
-use crate::search::run_clock::RunClock;
 use plan_answer::gap_text;
+use plan_search::{Keeper, Progress, RunClock};
 use plan_table::decimal_text;
 use std::alloc::{AllocError, Global};
 use std::cell::Cell;
@@ -21,24 +20,22 @@ const LOOK_MS: u64 = 100;
 const MOST_DECIMALS: usize = 40;
 
 /// How a run reports its progress.
-#[derive(Clone, Copy, PartialEq, Eq)]
+#[derive(Clone, Copy)]
 pub enum Telling {
     /// Not at all.
     Never,
-    /// By a line that is kept up to date, on a terminal.
-    OneLine,
-    /// By a line every ten seconds.
-    Lines,
+    /// By a line of this many columns that is kept up to date, on a terminal.
+    OneLine(usize),
+    /// By a line of at most this many columns every ten seconds.
+    Lines(usize),
 }
 
-/// How a run on this system reports its progress: always on a terminal, and elsewhere if requested.
-pub fn telling_of(rt: &HostRuntime, asked: bool) -> Telling {
-    if rt.stderr().is_terminal() {
-        Telling::OneLine
-    } else if asked {
-        Telling::Lines
-    } else {
-        Telling::Never
+/// How a run on this system reports its progress in lines of this many columns, if it is to.
+pub fn telling_of(rt: &HostRuntime, columns: Option<usize>) -> Telling {
+    match columns {
+        Some(columns) if rt.stderr().is_terminal() => Telling::OneLine(columns),
+        Some(columns) => Telling::Lines(columns),
+        None => Telling::Never,
     }
 }
 
@@ -106,26 +103,29 @@ impl<R: Eprint + AllocGlobal + Files, T: time::Clock> Keeper for Teller<'_, R, T
     }
 
     fn is_watching(&self) -> bool {
-        self.telling != Telling::Never
+        !matches!(self.telling, Telling::Never)
     }
 
     fn see(&self, progress: &Progress) {
         let now = self.elapsed.milliseconds();
-        if self.telling == Telling::Lines {
-            if now.saturating_sub(self.told_ms.get()) < PAUSE_MS {
-                return;
-            }
-            self.told_ms.set(now);
-        }
         let decimals = self.decimals.get();
-        let Ok(line) = progress_line(self.rt.alloc(), now, progress, decimals) else {
-            return;
-        };
-        let _ = if self.telling == Telling::OneLine {
-            self.rt.eprint(format_args!("\r{line:<79}"))
-        } else {
-            self.rt.eprintln(&line)
-        };
+        match self.telling {
+            Telling::Never => {}
+            Telling::OneLine(columns) => {
+                if let Ok(line) = progress_line(self.rt.alloc(), now, progress, decimals) {
+                    let _ = self.rt.eprint(format_args!("\r{line:<columns$.columns$}"));
+                }
+            }
+            Telling::Lines(columns) => {
+                if now.saturating_sub(self.told_ms.get()) < PAUSE_MS {
+                    return;
+                }
+                self.told_ms.set(now);
+                if let Ok(line) = progress_line(self.rt.alloc(), now, progress, decimals) {
+                    let _ = self.rt.eprintln(format_args!("{line:.columns$}"));
+                }
+            }
+        }
     }
 
     fn use_decimals(&self, decimals: usize) {
@@ -149,14 +149,14 @@ impl<R: Eprint + AllocGlobal + Files, T: time::Clock> Keeper for Teller<'_, R, T
 
     /// Makes the terminal's line empty again.
     fn finish(&self) {
-        if self.telling == Telling::OneLine {
-            let _ = self.rt.eprint(format_args!("\r{:<79}\r", ""));
+        if let Telling::OneLine(columns) = self.telling {
+            let _ = self.rt.eprint(format_args!("\r{:<columns$}\r", ""));
         }
     }
 }
 
-/// How far a search has come after this many milliseconds, in at most 79 columns: the seconds, the cost of the incumbent with
-/// this many decimals, how far that may be above the least, how many nodes are decided, and how many were in a second.
+/// How far a search has come after this many milliseconds: the seconds, the cost of the incumbent with this many decimals,
+/// how far that may be above the least, how many nodes are decided, and how many were in a second.
 pub fn progress_line(
     alloc: Global,
     milliseconds: u64,
@@ -167,8 +167,7 @@ pub fn progress_line(
     let seconds = milliseconds / 1000;
     let rate = u128::from(decided) * 1000 / u128::from(milliseconds.max(1));
     let cost = cost_phrase(alloc, progress, decimals)?;
-    let line = format!(in alloc; "{seconds} s{cost}, {decided} nodes, {rate}/s")?;
-    format!(in alloc; "{line:.79}")
+    format!(in alloc; "{seconds} s{cost}, {decided} nodes, {rate}/s")
 }
 
 /// The cost of the incumbent, if it is to be reported, and how far it may be above the least, if a bound is known.

@@ -5,8 +5,8 @@ ghost use Rattle.proof_search.specs.Held.{text_of};
 ghost use Rattle.qap_proof.specs.Text.{IsProofText};
 ghost use Rattle.qap_plan.specs.Outcome.{IsTextOfProof};
 
-use crate::error::PlannerError;
-use crate::search::planning::Planned;
+use plan_files::PlannerError;
+use plan_search::Planned;
 use proof_search::PairProof;
 use qap_io::Counted;
 use qap_proof::{Proof, write};

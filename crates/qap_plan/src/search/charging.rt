@@ -6,15 +6,11 @@ ghost use Rattle.plan_charge.specs.Forbidden.{AreForbidden};
 ghost use Rattle.plan_charge.specs.Restricted.{IsAllowed, IsCharged};
 ghost use Rattle.qap_cost.specs.Bijection.{IsPerm};
 ghost use Rattle.qap_plan.specs.Charging.{ProvesCharged, ShowsCharged};
-ghost use Rattle.qap_plan.specs.Options.{AreLimited};
+ghost use Rattle.plan_search.specs.Options.{AreLimited};
 
-use crate::error::PlannerError;
-use crate::input::restriction::{Restriction, widened};
-use crate::search::keeper::Keeper;
-use crate::search::options::Options;
-use crate::search::planning::Planned;
-use crate::search::searching::search_keeping;
 use plan_charge::{extended_permutation, front, restricted_law};
+use plan_files::{PlannerError, Restriction, widened};
+use plan_search::{Keeper, Options, Planned, search_keeping};
 use qap_cost::{Instance, Perm};
 use std::alloc::{AllocError, Global};
 use std::sync::Wait;

@@ -3,16 +3,12 @@
 ghost use Rattle.std.specs.Prelude.{IfOk, IfSome, ◌≤ℤ◌};
 ghost use Rattle.qap_cost.specs.Objective.{Permutes, cost_of};
 ghost use Rattle.qap_proof.specs.Claim.{IsRoot};
-ghost use Rattle.qap_plan.specs.Options.{AreLimited};
+ghost use Rattle.plan_search.specs.Options.{AreLimited};
 ghost use Rattle.qap_plan.specs.Parts.{IsSplitUp};
 ghost use Rattle.qap_plan.specs.Splitting.{IsSkeleton};
 
-use crate::error::PlannerError;
-use crate::input::instance_file::Searched;
-use crate::search::improving::improved_below;
-use crate::search::keeper::Keeper;
-use crate::search::options::{MAX_NODES, Options};
-use crate::search::searching::own_start;
+use plan_files::{PlannerError, Searched};
+use plan_search::{Keeper, MAX_NODES, Options, improved_below, own_start};
 use qap_cost::{Instance, Partial, Perm};
 use qap_proof::{MissingPart, Proof, missing_parts, refined};
 use std::alloc::Global;

@@ -5,7 +5,7 @@ use Rattle.qap_cost.specs.Range.{IsLimited}
 use Rattle.qap_lines.specs.Bound.{IsBoundFor}
 use Rattle.proof_tree.specs.Claim.{pair_claim}
 use Rattle.proof_check.specs.Acceptance.{IsPairVerdictOf}
-use Rattle.proof_check.proofs.Accepting.{ReadsVerdict-leaves}
+use Rattle.proof_check.proofs.Accepting.{ReadsVerdict-leaves, RefusesNoProof-pairs}
 use Rattle.proof_check.proofs.acceptance.accept.Goals as goal
 
 pub verdict_of-requires-clause-cost : goal.verdict_of-requires-clause-cost
@@ -35,4 +35,9 @@ returns-clause-verdict g c =
 pub returns-in_err-checked-clause-refused : goal.returns-in_err-checked-clause-refused
 returns-in_err-checked-clause-refused g c =
     let e = err_from_is_err_and c.from_residual.result c.from_residual.ensures.1 in
-    rw (e.1, e.2) (λ xs v known shows. (c.in_err-checked.ensures {u = tt}).refused xs v known shows)
+    rw (e.1, e.2) (RefusesNoProof-pairs c.args.instance.now _ _ ((c.in_err-checked.ensures {u = tt}).fault))
+
+pub returns-in_err-checked-clause-fault : goal.returns-in_err-checked-clause-fault
+returns-in_err-checked-clause-fault g c =
+    let e = err_from_is_err_and c.from_residual.result c.from_residual.ensures.1 in
+    rw (e.1, e.2) ((c.in_err-checked.ensures {u = tt}).fault)

@@ -1,5 +1,5 @@
 use Rattle.std.proofs.Common.{pos}
 use Rattle.proof_check.proofs.head.judge_header.Goals as goal
 
-pub returns-in_default-2 : goal.returns-in_default-2
-returns-in_default-2 c = λ named. (rw c.in_default.is at c.one_number.ensures) (pos 2) named
+pub returns-in_default-2-clause-judged : goal.returns-in_default-2-clause-judged
+returns-in_default-2-clause-judged c = λ named. (rw c.in_default.is at c.one_number.ensures) (pos 2) named

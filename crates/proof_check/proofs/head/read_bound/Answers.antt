@@ -19,7 +19,7 @@ returns-in_ok-advance-in-Some-clause-read g c =
     let bound = c.in-Some.bound in
     let a = g.R.Read.remaining c.args.reader.now in
     let b = g.R.Read.remaining c.advance.new.reader in
-    let found = rw c.in-Some.is at c.in_ok-judge_bound.ensures in
+    let found = rw c.in-Some.is at c.in_ok-judge_bound.ensures.judged in
     let cost_is : to_z w128 (of_z w128 cost) ≡ cost = to_z-of_z w128 cost c.ranges.cost in
     let low = subst (λ (z : ℤ). IsBelow z bound) cost_is found.0 in
     let less = low.less in
@@ -34,28 +34,28 @@ returns-in_err-judge_bound-clause-passed g c =
     let cost = c.args.cost in
     let cost_is : to_z w128 (of_z w128 cost) ≡ cost = to_z-of_z w128 cost c.ranges.cost in
     rw (e.1, e.2) (λ h text has.
-    let refused = c.in_err-judge_bound.ensures {u = tt} in
+    let refused = (c.in_err-judge_bound.ensures {u = tt}).judged in
     bound_refused cost h c.args.cursor.now.line.items c.deref.result.now _ text _ c.deref.ensures.value (λ z below named. refused.0 z (subst (λ (k : ℤ). IsBelow k z) (sym cost_is) below) named) refused.1 has)
 
 pub returns-in_err-advance-in-Some-clause-passed : goal.returns-in_err-advance-in-Some-clause-passed
 returns-in_err-advance-in-Some-clause-passed g c =
     let e = err_from_is_err_and c.from_residual-in_err-advance-in-Some.result c.from_residual-in_err-advance-in-Some.ensures.1 in
     rw (e.1, e.2) (λ h text has.
-    let found = rw c.in-Some.is at c.in_ok-judge_bound.ensures in
+    let found = rw c.in-Some.is at c.in_ok-judge_bound.ensures.judged in
     let is = bound_found c.args.cost c.in-Some.bound h c.args.cursor.now.line.items c.deref.result.now _ text c.deref.ensures.value found.1 has in
     (c.in_err-advance-in-Some.ensures {u = tt}).refused _ _ (next_line 98 _ text has.next is.1))
 
 pub returns-in-None-clause-passed : goal.returns-in-None-clause-passed
 returns-in-None-clause-passed g c = λ h text has.
     let cost = c.args.cost in
-    let none = rw c.in-None.is at c.in_ok-judge_bound.ensures in
+    let none = rw c.in-None.is at c.in_ok-judge_bound.ensures.judged in
     let is = bound_none cost h c.args.cursor.now.line.items c.deref.result.now _ text c.deref.ensures.value none has in
     (to_z-of_z w128 cost c.ranges.cost ∙ is.0, is.1)
 
 pub returns-in_ok-advance-in-Some-clause-passed : goal.returns-in_ok-advance-in-Some-clause-passed
 returns-in_ok-advance-in-Some-clause-passed g c = λ h text has.
     let bound = c.in-Some.bound in
-    let found = rw c.in-Some.is at c.in_ok-judge_bound.ensures in
+    let found = rw c.in-Some.is at c.in_ok-judge_bound.ensures.judged in
     let is = bound_found c.args.cost bound h c.args.cursor.now.line.items c.deref.result.now _ text c.deref.ensures.value found.1 has in
     let read = c.in_ok-advance-in-Some.ensures in
     let limited = found.0.limited in

@@ -12,7 +12,7 @@ use Rattle.proof_check.proofs.head.read_cost.Goals as goal
 
 pub returns-clause-read : goal.returns-clause-read
 returns-clause-read g c =
-    let found = c.in_ok-cost.ensures in
+    let found = c.in_ok-cost.ensures.judged in
     let cost = c.in_ok-cost.cost in
     let a = g.R.Read.remaining c.args.reader.now in
     let b = g.R.Read.remaining c.advance.new.reader in
@@ -30,4 +30,4 @@ returns-in_err-cost-clause-refused g c =
     let e = err_from_is_err_and c.from_residual-in_err-cost.result c.from_residual-in_err-cost.ensures.1 in
     let read = c.in_ok-advance.ensures in
     rw (e.1, e.2) (λ z limited rest known.
-    absurd (c.in_err-cost.ensures {u = tt} z limited (named_read _ _ c.advance.new.cursor.line.items c.deref.result.now (codes "cost") (z ∷ []) rest read.read read.whole c.deref.ensures.value no_line-cost (AllLimited-one z limited) known)))
+    absurd ((c.in_err-cost.ensures {u = tt}).judged z limited (named_read _ _ c.advance.new.cursor.line.items c.deref.result.now (codes "cost") (z ∷ []) rest read.read read.whole c.deref.ensures.value no_line-cost (AllLimited-one z limited) known)))

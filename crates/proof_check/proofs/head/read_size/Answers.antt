@@ -9,7 +9,7 @@ use Rattle.proof_check.proofs.head.read_size.Goals as goal
 
 pub returns-clause-read : goal.returns-clause-read
 returns-clause-read g c =
-    let size = c.in_ok-size.ensures in
+    let size = c.in_ok-size.ensures.judged in
     let n = c.in_ok-size.size in
     (size.0, size.1, named_line _ _ (codes "n") _ _ (pos n ∷ []) c.deref.ensures.value size.2 (AllLimited-one (pos n) (omega (arith, size.1))) c.in_ok-advance.ensures.read)
 
@@ -24,4 +24,4 @@ returns-in_err-size-clause-refused g c =
     let e = err_from_is_err_and c.from_residual-in_err-size.result c.from_residual-in_err-size.ensures.1 in
     let read = c.in_ok-advance.ensures in
     rw (e.1, e.2) (λ n some small rest known.
-    absurd (c.in_err-size.ensures {u = tt} n some small (named_read _ _ c.advance.new.cursor.line.items c.deref.result.now (codes "n") (pos n ∷ []) rest read.read read.whole c.deref.ensures.value no_line-size (AllLimited-one (pos n) (omega (arith, small))) known)))
+    absurd ((c.in_err-size.ensures {u = tt}).judged n some small (named_read _ _ c.advance.new.cursor.line.items c.deref.result.now (codes "n") (pos n ∷ []) rest read.read read.whole c.deref.ensures.value no_line-size (AllLimited-one (pos n) (omega (arith, small))) known)))

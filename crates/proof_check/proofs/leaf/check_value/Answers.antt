@@ -1,4 +1,4 @@
-use Rattle.std.proofs.Common.{◌≡◌, ℕ, ℤ, of_z, subst, to_z, arith}
+use Rattle.std.proofs.Common.{ℕ, ℤ, of_z, subst, to_z, arith}
 use Rattle.std.specs.Int.{w128}
 use Rattle.std.proofs.lemmas.Int.{ints}
 use Rattle.proof_tree.specs.Leaves.{IsGreatest}
@@ -6,8 +6,8 @@ use Rattle.proof_tree.specs.Valid.{ReachesBound}
 use Rattle.proof_check.proofs.Closing.{PushesLeaf-none, PushesLeaf-one, far_read, reached, scaled_read}
 use Rattle.proof_check.proofs.leaf.check_value.Goals as goal
 
-pub returns-then-value-threshold-clause-refused : goal.returns-then-value-threshold-clause-refused
-returns-then-value-threshold-clause-refused c = λ reaches.
+pub returns-then-value-threshold : goal.returns-then-value-threshold
+returns-then-value-threshold c = λ reaches.
     let j = c.args.judge.now in
     let scale = c.args.duals.now.scale in
     let low = c.threshold.result in
@@ -15,10 +15,10 @@ returns-then-value-threshold-clause-refused c = λ reaches.
     let value_read = far_read c.args.value c.requires.small in
     let past = reached j.step j.bound j.below scale low c.args.value c.requires.judge.low (scaled_read j.step j.bound j.below scale low c.requires.judge.low c.threshold.ensures.value) reaches in
     let most = c.if-value-threshold.true in
-    absurd (omega (arith, ints, read, value_read, past, most))
+    omega (arith, ints, read, value_read, past, most)
 
-pub returns-then-value-threshold-2-clause-listed : goal.returns-then-value-threshold-2-clause-listed
-returns-then-value-threshold-2-clause-listed c =
+pub returns-then-value-threshold-2 : goal.returns-then-value-threshold-2
+returns-then-value-threshold-2 c =
     let j = c.args.judge.now in
     let scale = c.args.duals.now.scale in
     let high = c.threshold-2.result in
@@ -28,8 +28,8 @@ returns-then-value-threshold-2-clause-listed c =
     PushesLeaf-none j.step j.bound j.below j.cost j.enough scale c.args.value c.args.node.now high c.args.leaves.now.items c.requires.judge
     (scaled_read j.step j.cost j.enough scale high c.requires.judge.high c.threshold-2.ensures.value) (omega (arith, ints, read, value_read, above))
 
-pub returns-clause-listed : goal.returns-clause-listed
-returns-clause-listed c =
+pub returns : goal.returns
+returns c =
     let j = c.args.judge.now in
     let scale = c.args.duals.now.scale in
     let low = c.threshold.result in

@@ -1,12 +1,11 @@
-use Rattle.std.proofs.Common.{◌≡◌, ◌≤◌, ◌*◌, ◌^◌, List, ℤ, length, map, unsigned_abs, to_z, of_z, refl, subst, sym, ◌∙◌, ap, ap₂, arith}
-use Rattle.std.specs.Prelude.{◌+ℤ◌, ◌<ℤ◌, ◌≤ℤ◌}
-use Rattle.std.specs.Int.{w128}
+use Rattle.std.proofs.Common.{◌≡◌, ◌^◌, List, ℤ, length, map, refl, subst, sym, ◌∙◌, ap, ap₂, arith}
+use Rattle.std.specs.Prelude.{◌+ℤ◌}
 use Rattle.std.proofs.lemmas.Int.{ints}
 use Rattle.qap_cost.specs.Matrix.{total}
 use Rattle.qap_cost.specs.Range.{AllWithin}
 use Rattle.pair_duals.specs.Reduced.{AreLeast, AreLeastOfRows, count_of}
 use Rattle.proof_check.specs.Judge.{IsValueWithMinima}
-use Rattle.proof_check.proofs.Minima.{columns_within, drawn_value, few_rows, map_same, rows_within, sums_are, value_within, with_minima, without_minima}
+use Rattle.proof_check.proofs.Minima.{columns_within, drawn_value, few_rows, map_same, rows_within, sums_are, value_within, with_minima}
 use Rattle.proof_check.proofs.leaf.with_minima.Goals as goal
 
 pub sum-requires-clause-few : goal.sum-requires-clause-few

@@ -1,16 +1,14 @@
-use Rattle.std.proofs.Common.{◌≡◌, ◌∙◌, ℕ, ℤ, ap, subst, sym, arith, to_z, of_z, length}
+use Rattle.std.proofs.Common.{ℤ, ap, subst, sym, arith, to_z, of_z, length}
 use Rattle.std.specs.Int.{w128}
-use Rattle.std.specs.Prelude.{IfErr, ◌<ℤ◌, ◌+ℤ◌, ◌↔◌}
+use Rattle.std.specs.Prelude.{◌↔◌}
 use Rattle.std.proofs.lemmas.Int.{ints}
 use Rattle.pair_duals.proofs.Seatings.{same_count}
-use Rattle.pair_duals.specs.Reduced.{at}
 use Rattle.pair_duals.specs.Seats.{child_at}
 use Rattle.qap_cost.specs.Placement.{Placement}
 use Rattle.proof_tree.specs.Valid.{IsClosed, ReachesBound, under}
-use Rattle.proof_check.specs.Acceptance.{IsInterruption}
 use Rattle.proof_check.specs.Walk.{PushesLeaf}
 use Rattle.proof_check.proofs.ClosedRefusals.{closed_is}
-use Rattle.proof_check.proofs.Closing.{PushesLeaf-alone, PushesLeaf-none, PushesLeaf-same, far_read, on_ok, refused_same, scaled_read}
+use Rattle.proof_check.proofs.Closing.{PushesLeaf-alone, PushesLeaf-none, PushesLeaf-same, far_read, scaled_read, value_judged}
 use Rattle.proof_check.proofs.walking.check_cell.Goals as goal
 
 pub child_node-requires-clause-row : goal.child_node-requires-clause-row
@@ -20,8 +18,8 @@ pub child_node-requires-clause-column : goal.child_node-requires-clause-column
 child_node-requires-clause-column c =
     omega (arith, c.requires.column, ap length c.requires.parent.columns, c.requires.parent.form.numbers.row_count, same_count c.args.parent.now.split.node.now c.requires.parent.placement)
 
-pub returns-then-prunes-clause-closed : goal.returns-then-prunes-clause-closed
-returns-then-prunes-clause-closed c =
+pub returns-then-prunes : goal.returns-then-prunes
+returns-then-prunes c =
     let j = c.args.judge.now in
     let p = c.args.parent.now in
     let enough = c.threshold-enough.result in
@@ -36,8 +34,8 @@ check_value-requires-clause-small c =
     let read = far_read c.in_ok-value.value small in
     omega (arith, ints, read, small)
 
-pub returns-then-value-enough-clause-closed : goal.returns-then-value-enough-clause-closed
-returns-then-value-enough-clause-closed c =
+pub returns-then-value-enough : goal.returns-then-value-enough
+returns-then-value-enough c =
     let j = c.args.judge.now in
     let p = c.args.parent.now in
     let I = j.instance.now in
@@ -55,8 +53,8 @@ returns-then-value-enough-clause-closed c =
     PushesLeaf-same (λ b. ReachesBound j.step b now.duals.scale z) (λ b. IsClosed I j.step b now h k) j.bound j.cost y ls ls same
     (PushesLeaf-none j.step j.bound j.below j.cost j.enough now.duals.scale z y enough ls c.requires.judge (scaled_read j.step j.cost j.enough p.duals.now.scale enough c.requires.judge.high c.threshold-enough.ensures.value) (omega (arith, ints, enough_read, value_read, above)))
 
-pub returns-clause-closed : goal.returns-clause-closed
-returns-clause-closed c =
+pub returns : goal.returns
+returns c =
     let j = c.args.judge.now in
     let p = c.args.parent.now in
     let I = j.instance.now in
@@ -70,21 +68,10 @@ returns-clause-closed c =
     let before = c.args.leaves.now.items in
     let after = c.check_value.new.leaves.items in
     let same : (b : ℤ) → ReachesBound j.step b now.duals.scale z ↔ IsClosed I j.step b now h k = λ b. let i = closed_is I j.step now h k c.child.new.child z b c.requires.row c.in_ok-child.ensures.child c.in_ok-value.ensures.value in (i.1, i.0) in
-    on_ok c.check_value.result _ _ (λ pushed.
+    value_judged c.check_value.result _ _ (ReachesBound j.step j.bound now.duals.scale (to_z w128 (of_z w128 z))) (IsClosed I j.step j.bound now h k)
+    (λ pushed.
     PushesLeaf-same (λ b. ReachesBound j.step b now.duals.scale z) (λ b. IsClosed I j.step b now h k) j.bound j.cost y before after same
     (subst (λ (x : Placement). PushesLeaf (λ b. ReachesBound j.step b now.duals.scale z) j.bound j.cost x before after) c.in_ok-node.ensures
-    (subst (λ (w : ℤ). PushesLeaf (λ b. ReachesBound j.step b now.duals.scale w) j.bound j.cost node before after) value_read pushed))) c.check_value.ensures.listed
-
-pub returns-clause-refused : goal.returns-clause-refused
-returns-clause-refused c =
-    let j = c.args.judge.now in
-    let p = c.args.parent.now in
-    let I = j.instance.now in
-    let now = under p.duals.now p.form.now in
-    let h = c.args.h in
-    let k = c.args.g in
-    let z = c.in_ok-value.value in
-    let value_read = far_read z c.in_ok-value.ensures.small in
-    refused_same c.check_value.result (ReachesBound j.step j.bound now.duals.scale (to_z w128 (of_z w128 z))) (IsClosed I j.step j.bound now h k)
+    (subst (λ (w : ℤ). PushesLeaf (λ b. ReachesBound j.step b now.duals.scale w) j.bound j.cost node before after) value_read pushed)))
     (λ closed. subst (ReachesBound j.step j.bound now.duals.scale) (sym value_read) ((closed_is I j.step now h k c.child.new.child z j.bound c.requires.row c.in_ok-child.ensures.child c.in_ok-value.ensures.value).0 closed))
-    c.check_value.ensures.refused
+    c.check_value.ensures

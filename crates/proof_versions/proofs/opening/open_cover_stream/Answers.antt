@@ -1,4 +1,4 @@
-use Rattle.std.proofs.Common.{◌∙◌, ◌≡◌, ℤ, ap, inl, of_z, refl, rules, subst, sym, to_z}
+use Rattle.std.proofs.Common.{inr, ◌∙◌, ◌≡◌, ℤ, ap, inl, of_z, refl, rules, subst, sym, to_z}
 use Rattle.std.proofs.lemmas.Result.{err_from_is_err_and}
 use Rattle.std.specs.Int.{w128}
 use Rattle.qap_proof.specs.Cover.{IsCovering, cover_of}
@@ -15,12 +15,12 @@ from_leaves-requires g c =
 pub returns-in_err-checked-clause-refused : goal.returns-in_err-checked-clause-refused
 returns-in_err-checked-clause-refused g c =
     let e = err_from_is_err_and c.from_residual.result c.from_residual.ensures.1 in
-    rw (e.1, e.2) (λ text known v shows. (c.in_err-checked.ensures {u = tt}).refused text v known shows)
+    rw (e.1, e.2) ((c.in_err-checked.ensures {u = tt}).fault)
 
 pub returns-in_err-cover-clause-refused : goal.returns-in_err-cover-clause-refused
 returns-in_err-cover-clause-refused g c =
     let e = err_from_is_err_and c.from_residual-in_err-cover.result c.from_residual-in_err-cover.ensures.1 in
-    rw (e.1, e.2) (λ text known v shows. inl refl)
+    rw (e.1, e.2) (λ text known. inr (inr (inl refl)))
 
 pub returns-clause-opened : goal.returns-clause-opened
 returns-clause-opened g c =

@@ -1,4 +1,4 @@
-use Rattle.std.proofs.lemmas.Result.{IfErr-weaker, IfOk-weaker}
+use Rattle.std.proofs.lemmas.Result.{IfOk-weaker}
 use Rattle.proof_versions.proofs.Streams.{IsLimitedVerdict-read, StreamShows-read}
 use Rattle.proof_versions.proofs.pairs.accept_stream.Goals as goal
 
@@ -11,4 +11,4 @@ returns-clause-bounded g c =
     IfOk-weaker c.accept.result _ _ (IsLimitedVerdict-read c.args.instance.now (g.R.Read.remaining c.args.reader.now)) c.accept.ensures.verdict
 
 pub returns-clause-refused : goal.returns-clause-refused
-returns-clause-refused g c = IfErr-weaker c.accept.result _ _ (λ e h text known v shows. h text v known shows) c.accept.ensures.refused
+returns-clause-refused g c = c.accept.ensures.fault

@@ -1,4 +1,4 @@
-use Rattle.std.proofs.lemmas.Result.{IfErr-weaker, IfOk-weaker}
+use Rattle.std.proofs.lemmas.Result.{IfOk-weaker}
 use Rattle.proof_versions.proofs.Streams.{StreamProves-read}
 use Rattle.proof_versions.proofs.pairs.stream_stated.Goals as goal
 
@@ -7,4 +7,4 @@ returns-clause-proves g c =
     IfOk-weaker c.accept_stated.result _ _ (λ s h. StreamProves-read c.args.instance.now (g.R.Read.remaining c.args.reader.now) s.root s.cost s.bound s.bound s.leaves.items h) c.accept_stated.ensures.stated
 
 pub returns-clause-refused : goal.returns-clause-refused
-returns-clause-refused g c = IfErr-weaker c.accept_stated.result _ _ (λ e h text known v shows. h text v known shows) c.accept_stated.ensures.refused
+returns-clause-refused g c = c.accept_stated.ensures.fault

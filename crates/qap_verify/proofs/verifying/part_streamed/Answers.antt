@@ -1,4 +1,4 @@
-use Rattle.std.proofs.Common.{◌∙◌, ℕ, List, inl, refl, rules, subst}
+use Rattle.std.proofs.Common.{◌∙◌, ℕ, List, inl, inr, refl, rules, subst}
 use Rattle.std.specs.Prelude.{Option}
 use Rattle.std.proofs.lemmas.Result.{err_from_is_err_and}
 use Rattle.qap_proof.specs.declared.error.ProofError.TheVariants.{OutOfMemory as ProofMemory}
@@ -6,7 +6,7 @@ use Rattle.proof_versions.specs.Streams.{StreamRefuses}
 use Rattle.qap_verify.proofs.verifying.part_streamed.Goals as goal
 
 pub returns-in_default : goal.returns-in_default
-returns-in_default g c = ((ProofMemory, refl, λ text known v shows. inl refl), refl)
+returns-in_default g c = ((ProofMemory, refl, λ text known. inr (inr (inl refl))), refl)
 
 pub returns-in_err-add_part_stream : goal.returns-in_err-add_part_stream
 returns-in_err-add_part_stream g c =

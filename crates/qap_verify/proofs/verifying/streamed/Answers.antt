@@ -1,4 +1,4 @@
-use Rattle.std.proofs.Common.{◌∙◌, ℕ, List, inl, refl, rules, subst}
+use Rattle.std.proofs.Common.{◌∙◌, ℕ, List, inl, inr, refl, rules, subst}
 use Rattle.std.specs.Prelude.{Option}
 use Rattle.std.proofs.lemmas.Result.{err_from_is_err_and}
 use Rattle.qap_proof.specs.declared.error.ProofError.TheVariants.{OutOfMemory as ProofMemory}
@@ -6,7 +6,7 @@ use Rattle.proof_versions.specs.Streams.{StreamRefuses}
 use Rattle.qap_verify.proofs.verifying.streamed.Goals as goal
 
 pub returns-in_default-clause-shown : goal.returns-in_default-clause-shown
-returns-in_default-clause-shown g c = (ProofMemory, refl, λ text known v shows. inl refl)
+returns-in_default-clause-shown g c = (ProofMemory, refl, λ text known. inr (inr (inl refl)))
 
 pub returns-in_err-accept_stream-clause-shown : goal.returns-in_err-accept_stream-clause-shown
 returns-in_err-accept_stream-clause-shown g c =

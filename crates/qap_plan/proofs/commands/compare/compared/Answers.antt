@@ -1,6 +1,6 @@
 use Rattle.std.proofs.Common.{◌≡◌, List, Some, of_z, rules, subst, to_z, ℕ}
 use Rattle.std.specs.Int.{w128}
-use Rattle.qap_plan.specs.Keeping.{IsKept}
+use Rattle.plan_search.specs.Keeping.{IsKept}
 use Rattle.qap_plan.proofs.commands.compare.compared.Goals as goal
 
 pub returns : goal.returns

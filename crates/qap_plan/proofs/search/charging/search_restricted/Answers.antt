@@ -6,8 +6,8 @@ use Rattle.qap_cost.specs.Objective.{cost_of}
 use Rattle.qap_cost.specs.Placement.{Completes}
 use Rattle.plan_charge.specs.Extended.{extended_list}
 use Rattle.qap_plan.specs.Charging.{ProvesCharged, ShowsCharged}
-use Rattle.qap_plan.specs.Keeping.{ProvesKept, ShowsKept}
-use Rattle.qap_plan.proofs.Restricted.{IsCharged-same, allowed-IsPerm, first-is, permutes-larger}
+use Rattle.plan_search.specs.Keeping.{ProvesKept, ShowsKept}
+use Rattle.plan_files.proofs.Restricted.{IsCharged-same, allowed-IsPerm, first-is, permutes-larger}
 use Rattle.qap_plan.proofs.search.charging.search_restricted.Goals as goal
 
 pub search_keeping-requires-clause-start : goal.search_keeping-requires-clause-start

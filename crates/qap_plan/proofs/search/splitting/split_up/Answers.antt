@@ -1,5 +1,5 @@
 use Rattle.qap_cost.specs.Objective.{cost_of}
-use Rattle.qap_plan.proofs.Kept.{no_dearer_kept}
+use Rattle.plan_search.proofs.Kept.{no_dearer_kept}
 use Rattle.qap_plan.proofs.SplitUps.{IsSplitUp-begun}
 use Rattle.qap_plan.proofs.search.splitting.split_up.Goals as goal
 

@@ -1,6 +1,0 @@
-//! The tests of `gilmore_lawler`, on its public calls only: in a separate crate, they do not cause a second proof of
-//! it.
-#![tactic(auto)]
-
-#[cfg(test)]
-mod tests;

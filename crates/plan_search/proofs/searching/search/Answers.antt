@@ -1,0 +1,20 @@
+use Rattle.std.proofs.Common.{◌∙◌, ap, subst}
+use Rattle.std.specs.Prelude.{IfSome}
+use Rattle.qap_cost.specs.Placement.{Placement, root_of}
+use Rattle.plan_search.specs.Planning.{ProvesOver, ShowsOver}
+use Rattle.plan_search.proofs.Kept.{planned_of}
+use Rattle.plan_search.proofs.searching.search.Goals as goal
+
+pub returns-clause-planned : goal.returns-clause-planned
+returns-clause-planned g c =
+    planned_of c.args.instance.now c.in_ok-root.root c.args.start _ _ _ (c.in_ok-root.ensures.value ∙ ap root_of c.size.ensures.value) c.requires.start c.in_ok-found.ensures.kept
+
+pub returns-clause-proof : goal.returns-clause-proof
+returns-clause-proof g c =
+    let found = c.in_ok-found.found in
+    subst (λ (x : Placement). IfSome found.proof (ProvesOver c.args.instance.now x found.permutation found.cost found.bound)) (c.in_ok-root.ensures.value ∙ ap root_of c.size.ensures.value) c.in_ok-found.ensures.proof
+
+pub returns-clause-pair_proof : goal.returns-clause-pair_proof
+returns-clause-pair_proof g c =
+    let found = c.in_ok-found.found in
+    subst (λ (x : Placement). IfSome found.pair_proof (ShowsOver c.args.instance.now x found.permutation found.cost found.bound)) (c.in_ok-root.ensures.value ∙ ap root_of c.size.ensures.value) c.in_ok-found.ensures.pair_proof

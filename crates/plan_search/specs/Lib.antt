@@ -1,0 +1,4 @@
+pub mod Keeping
+pub mod Options
+pub mod Planning
+pub mod Standing

@@ -1,0 +1,267 @@
+//! Searches below a root by workers on subtrees.
+
+ghost use Rattle.std.specs.Arc.{arc_value};
+ghost use Rattle.std.specs.Prelude.{IfOk, IfSome, None, ℕ, ℤ, ◌<◌, ◌≡◌, ◌≤ℤ◌, ◌≤◌};
+ghost use Rattle.qap_cost.specs.Objective.{Permutes, cost_of};
+ghost use Rattle.subtree_search.specs.Closed.{IsClosed};
+ghost use Rattle.plan_search.specs.Keeping.{IsSearched};
+ghost use Rattle.plan_search.specs.Options.{AreLimited};
+
+use crate::keeper::{Keeper, Progress};
+use crate::memory_limit::WithinMemory;
+use crate::options::{Options, free_in};
+use crate::planning::Planned;
+use dual_ascent::Effort;
+use gilmore_lawler::RankedInstance;
+use node_split::NodeSplit;
+use part_search::{Answer, Crew, Ground, Task, Watch, solve};
+use qap_cost::{Instance, Partial, Perm, cost};
+use std::alloc::{AllocError, Global};
+use std::cell::Cell;
+use std::sync::{Arc, Wait};
+use std::thread::Threads;
+use std::time;
+use subtree_search::Stop;
+
+/// The most free facilities with which a root is searched under pair duals: finding them takes memory with the fourth power
+/// of their number.
+const MAX_FREE: u64 = 36;
+
+/// How many hard rounds follow the soft sweeps that find the pair duals of the root.
+pub(crate) const ROUNDS: u32 = 30;
+
+/// The greatest scale of pair duals is this power of two.
+const MAX_EXPONENT: u32 = 16;
+
+/// How many leading zeros a cost of 2^15 has in 128 bits.
+const SPARE_BITS: u32 = 112;
+
+/// How many nodes are split by the bounds of Gilmore and Lawler before pair duals of the root are found. An easy instance
+/// is solved by then, in less time than these take.
+const EASY_NODES: u64 = 500;
+
+/// In how many rounds of the thread that keeps the space the progress is shown once.
+const ROUNDS_PER_LOOK: u32 = 128;
+
+/// Searches below a root from a permutation on, to the end or until a limit is reached or a stop is requested.
+pub(crate) fn search_subtrees<T, K>(
+    system: &T,
+    alloc: Global,
+    instance: &Instance,
+    root: &Partial,
+    start: &Perm,
+    options: &Options,
+    within: &WithinMemory<'_, K>,
+) -> Result<Planned, AllocError>
+where
+    T: Threads + Wait + time::Clock + Sync,
+    K: Keeper,
+    requires limited { AreLimited options.now }
+    requires start { Permutes instance.now start.now }
+    requires same_size { root.now.size ≡ instance.now.size }
+    ensures searched { IfOk result (λ x. IsSearched instance.now root.now start.now x.permutation x.cost x.bound) }
+    ensures proof { IfOk result (λ x. x.proof ≡ None) }
+    ensures pair_proof { IfOk result (λ x. x.pair_proof ≡ None) }
+{
+    let watcher = Watcher {
+        within,
+        looks: Cell::new(0),
+    };
+    let easy = searched_briefly(system, alloc, instance, root, start, options, &watcher)?;
+    if let Some(found) = easy {
+        return Ok(found);
+    }
+    let scale = scale_for(cost(instance, start));
+    let ground = ground_for(alloc, instance, root, options, scale)?;
+    let task = Task {
+        ground: &ground,
+        root,
+        start,
+        stop: &watcher,
+    };
+    let found = searched_on(system, alloc, instance, &task, options.crew())?;
+    if found.open_nodes == 0 {
+        return Ok(found);
+    }
+    let bound = root_bound(alloc, instance, root)?;
+    Ok(with_bound(found, bound))
+}
+
+/// What a search by the bounds of Gilmore and Lawler yields if it ends within a few nodes; `None` if it does not, or if
+/// these are the bounds of the whole search.
+fn searched_briefly<T, K>(
+    system: &T,
+    alloc: Global,
+    instance: &Instance,
+    root: &Partial,
+    start: &Perm,
+    options: &Options,
+    watcher: &Watcher<'_, '_, K>,
+) -> Result<Option<Planned>, AllocError>
+where
+    T: Threads + Wait + time::Clock + Sync,
+    K: Keeper,
+    requires limited { AreLimited options.now }
+    requires start { Permutes instance.now start.now }
+    requires same_size { root.now.size ≡ instance.now.size }
+    ensures searched { IfOk result (λ found. IfSome found (λ x. IsSearched instance.now root.now start.now x.permutation x.cost x.bound)) }
+    ensures proof { IfOk result (λ found. IfSome found (λ x. x.proof ≡ None)) }
+    ensures pair_proof { IfOk result (λ found. IfSome found (λ x. x.pair_proof ≡ None)) }
+{
+    if options.nodes.is_some() || !has_few_free(root) {
+        return Ok(None);
+    }
+    let ground = Arc::new(alloc, Ground::by_rows(alloc, instance)?)?;
+    let task = Task {
+        ground: &ground,
+        root,
+        start,
+        stop: watcher,
+    };
+    let crew = Crew {
+        limit: Some(EASY_NODES),
+        ..options.crew()
+    };
+    let found = searched_on(system, alloc, instance, &task, crew)?;
+    if found.open_nodes == 0 {
+        Ok(Some(found))
+    } else {
+        Ok(None)
+    }
+}
+
+/// What a search by these workers yields.
+fn searched_on<T, S>(
+    system: &T,
+    alloc: Global,
+    instance: &Instance,
+    task: &Task<'_, S>,
+    crew: Crew,
+) -> Result<Planned, AllocError>
+where
+    T: Threads + Wait + time::Clock + Sync,
+    S: Watch,
+    requires some { 0 < crew.workers }
+    requires few { crew.workers ≤ 64 }
+    requires same { arc_value task.now.ground.now ≡ instance.now }
+    requires start { Permutes instance.now task.now.start.now }
+    requires same_size { task.now.root.now.size ≡ instance.now.size }
+    ensures searched { IfOk result (λ x. IsSearched instance.now task.now.root.now task.now.start.now x.permutation x.cost x.bound) }
+    ensures proof { IfOk result (λ x. x.proof ≡ None) }
+    ensures pair_proof { IfOk result (λ x. x.pair_proof ≡ None) }
+{
+    let answer = solve(system, alloc, task, crew)?;
+    let found = found_by(&answer)?;
+    Ok(found)
+}
+
+/// Whether a root has few enough free facilities for pair duals.
+pub(crate) fn has_few_free(root: &Partial) -> bool {
+    free_in(root) <= MAX_FREE
+}
+
+/// What the workers share of the instance: for bounds under pair duals of this scale, or for those of Gilmore and Lawler if a
+/// number is out of range, many facilities are free, or a number of nodes is the limit.
+fn ground_for(
+    alloc: Global,
+    instance: &Instance,
+    root: &Partial,
+    options: &Options,
+    scale: u32,
+) -> Result<Arc<Ground>, AllocError>
+    requires { root.now.size ≡ instance.now.size }
+    ensures { IfOk result (λ h. arc_value h ≡ instance.now) }
+{
+    if has_few_free(root)
+        && options.nodes.is_none()
+        && let Some(ground) = Ground::new(alloc, instance, root, scale, &Effort::root())?
+    {
+        return Ok(Arc::new(alloc, ground)?);
+    }
+    Ok(Arc::new(alloc, Ground::by_rows(alloc, instance)?)?)
+}
+
+/// The least power of two that raises the cost to 2^15, and at most 2^16.
+pub(crate) fn scale_for(cost: i128) -> u32
+    ensures some { 0 < result }
+{
+    let exponent = cost
+        .unsigned_abs()
+        .leading_zeros()
+        .saturating_sub(SPARE_BITS)
+        .min(MAX_EXPONENT);
+    (1_u32 << exponent).max(1)
+}
+
+/// What the answer implies for the completions of the root.
+fn found_by(answer: &Answer) -> Result<Planned, AllocError>
+    ensures permutation { IfOk result (λ x. x.permutation ≡ answer.now.best.permutation) }
+    ensures cost { IfOk result (λ x. x.cost ≡ answer.now.best.cost) }
+    ensures bound { IfOk result (λ x. x.bound ≡ answer.now.bound) }
+    ensures proof { IfOk result (λ x. x.proof ≡ None) }
+    ensures pair_proof { IfOk result (λ x. x.pair_proof ≡ None) }
+{
+    Ok(Planned {
+        permutation: answer.best.permutation().copy()?,
+        cost: answer.best.cost(),
+        bound: answer.bound,
+        nodes: answer.nodes,
+        open_nodes: answer.open_nodes,
+        proof: None,
+        pair_proof: None,
+    })
+}
+
+/// The bound of the root alone, which a search that is stopped before its first node yields.
+fn root_bound(alloc: Global, instance: &Instance, root: &Partial) -> Result<i128, AllocError>
+    requires { root.now.size ≡ instance.now.size }
+    ensures { IfOk result (λ g. IsClosed instance.now root.now g) }
+{
+    let ranked = Arc::new(alloc, RankedInstance::new(alloc, instance)?)?;
+    let mut nodes = NodeSplit::new(alloc, ranked)?;
+    let bound = nodes.bound(root)?;
+    Ok(bound)
+}
+
+/// The same with the greater of both bounds, and at most the cost.
+fn with_bound(found: Planned, bound: i128) -> Planned
+    ensures permutation { result.permutation ≡ found.permutation }
+    ensures cost { result.cost ≡ found.cost }
+    ensures proof { result.proof ≡ found.proof }
+    ensures pair_proof { result.pair_proof ≡ found.pair_proof }
+    ensures none_less { (c : ℤ) → found.bound ≤ℤ c → bound ≤ℤ c → result.bound ≤ℤ c }
+    ensures at_most { result.bound ≤ℤ found.cost }
+{
+    let bound = found.bound.max(bound).min(found.cost);
+    Planned { bound, ..found }
+}
+
+/// Stops a search if a keeper requests it, and reports its progress to that keeper.
+#[derive(Drop)]
+struct Watcher<'a, 'k, K: Keeper> {
+    within: &'a WithinMemory<'k, K>,
+    /// The number of rounds of the thread that keeps the space so far.
+    looks: Cell<u32>,
+}
+
+impl<K: Keeper> Stop for Watcher<'_, '_, K> {
+    ghost says = { λ _ _. Unit {0} };
+
+    fn is_requested(&self) -> bool {
+        self.within.is_wanted()
+    }
+}
+
+impl<K: Keeper> Watch for Watcher<'_, '_, K> {
+    fn see(&self, progress: &part_search::Progress) {
+        let looks = self.looks.get().wrapping_add(1);
+        self.looks.set(looks);
+        if looks % ROUNDS_PER_LOOK == 0 && self.within.is_watching() {
+            self.within.see(&Progress {
+                cost: Some(progress.cost),
+                bound: progress.least.map(|least| least.min(progress.cost)),
+                decided: progress.tried,
+            });
+        }
+    }
+}

@@ -1,7 +1,0 @@
-//! The tests of `qap_cert`, on its public calls only: in a separate crate, they do not cause a second proof of it.
-#![tactic(auto)]
-
-#[cfg(test)]
-mod tests;
-#[cfg(test)]
-mod text_tests;

@@ -1,8 +1,0 @@
--- The options of a search.
-use Rattle.std.specs.Prelude.{◌≤◌}
-use Rattle.qap_plan.specs.declared.search.options.Options.{Options}
-
--- 1 to 64 workers
-pub record AreLimited (o : Options) : Type 0 where
-  pub some : 1 ≤ o.workers
-  pub few : o.workers ≤ 64
