@@ -21,8 +21,10 @@ use Rattle.part_search.specs.Covers.{IsCovered}
 use Rattle.part_search.specs.Ground.{StandFor}
 use Rattle.part_search.specs.Replacement.{MayReplace}
 use Rattle.part_search.specs.Tuples.{OpenNode, best_tuple, node_tuple, open_of}
-use Rattle.part_search.specs.Worker.{HasBest, HasBoth, HasOpen, HasTaken, HasTried, IsFoundBest, IsFoundOpen}
+use Rattle.part_search.specs.Worker.{HasBest, HasBoth, HasOpen, HasTaken, HasTried, IsFoundBest, IsFoundOpen, IsStage}
 use Rattle.part_search.specs.declared.open_node.Open.{Open}
+use Rattle.part_search.specs.declared.stage.Stage.{Stage}
+use Rattle.part_search.specs.declared.stage.Stage.TheVariants.{Idle, Begun, Taken, Tried, Ready, GivingUp}
 use Rattle.part_search.proofs.Replacing.{HasValue-lower}
 
 -- what two taken marks take out
@@ -35,6 +37,26 @@ one_mark number t a b p q = let e : Some a ≡ Some b = sym p ∙ q in cc
 -- open nodes that cover another one at c cover it at less
 covered_lower : (I : Problem) (c d : ℤ) (at : OpenNode) (opens : List OpenNode) → d ≤ℤ c → IsCovered I at.node c opens → IsCovered I at.node d opens
 covered_lower I c d at opens less h = record { below = λ g under all. h.below g (omega (arith, ints, less, under)) all }
+
+-- what a worker's transaction holds at c it holds at less
+pub stage_lower : (I : Problem) (c d : ℤ) (stage : Stage) → d ≤ℤ c → IsStage I c stage → IsStage I d stage
+stage_lower I c d Idle less h = tt
+stage_lower I c d (Begun t) less h = h
+stage_lower I c d (Taken t number) less h = h
+stage_lower I c d (Tried t) less h = record {
+  mark = h.mark;
+  marks = h.marks;
+  taken = h.taken;
+  permanent = h.permanent;
+  at = h.at;
+  is = h.is;
+  same_size = h.same_size;
+  opens = h.opens;
+  added = h.added;
+  stand = record { values = h.stand.values; covers = covered_lower I c d h.at h.opens less h.stand.covers };
+}
+stage_lower I c d (Ready t) less h = h
+stage_lower I c d (GivingUp t) less h = tt
 
 -- open nodes and the best permutation were written
 pub may_commit : (I : Problem) (c : ℤ) (number : ℕ) (t t' : TxnValue) (old new : Best) → TakenLaw → HasBoth I c number t → HasBest I t number old → IsIncumbent I new → new.cost ≤ℤ c → new.cost ≤ℤ old.cost → t'.marks ≡ t.marks

@@ -5,6 +5,7 @@ ghost use Rattle.part_search.specs.Worker.{Allows, IsIdle, IsLeaving, Leaves};
 
 use crate::aid::Aid;
 use crate::board::{Board, Wanted};
+use crate::offers::Offers;
 use crate::threads::Order;
 use crate::trying::Trial;
 use crate::values::Values;
@@ -23,14 +24,15 @@ use tuple_match::Template;
 /// How many steps a worker makes at most until it has no transaction, if there is memory.
 const STEPS_TO_IDLE: usize = 3;
 
-/// What workers share: the space, what they wait for there, how many wait, whether the search should stop, how many
-/// nodes were taken and tried, when children are left open untried, what they know of open nodes, which they take first,
-/// and the values of the nodes that they have yet to decide.
+/// What workers share: the space, the node below which they search, what they wait for there, how many wait, whether the
+/// search should stop, how many nodes were taken and tried, when children are left open untried, what they know of open nodes,
+/// which they take first, the values of the nodes that they have yet to decide, and what offers permutations.
 #[derive(Drop)]
-pub(crate) struct Workplace<'a, R: Wait + time::Clock, L: Law> {
+pub(crate) struct Workplace<'a, R: Wait + time::Clock, L: Law, O> {
     pub(crate) rt: &'a R,
     pub(crate) alloc: Global,
     pub(crate) shared: &'a Shared<L>,
+    pub(crate) root: &'a Partial,
     pub(crate) nodes: &'a Template,
     pub(crate) waiting: &'a AtomicU64,
     pub(crate) halt: &'a AtomicBool,
@@ -39,6 +41,7 @@ pub(crate) struct Workplace<'a, R: Wait + time::Clock, L: Law> {
     pub(crate) board: &'a Mutex<Board>,
     pub(crate) order: Order,
     pub(crate) values: &'a Mutex<Values>,
+    pub(crate) offers: &'a O,
 }
 
 /// Lets a worker try the children of a node until the search is to stop, another worker has no node, or its time is up.
@@ -141,13 +144,14 @@ impl<L: Law> Seat<L> {
 
     /// Works until the space is closed or there is no memory; a worker that found none gives its node up. At the end it has
     /// no transaction.
-    pub(crate) fn work<R: Wait + time::Clock>(&mut self, place: &Workplace<'_, R, L>)
+    pub(crate) fn work<R: Wait + time::Clock, O: Offers>(&mut self, place: &Workplace<'_, R, L, O>)
         ensures { self.new.to_idle ≡ 0 }
     {
         for _ in place.rt.forever() {
             if self.ended.is_some() {
                 break;
             }
+            self.take_offer(place);
             self.go_on_at(place);
         }
         if !self.worker.is_idle() {
@@ -156,7 +160,7 @@ impl<L: Law> Seat<L> {
     }
 
     /// Leaves the space, once it has no transaction.
-    pub(crate) fn leave<R: Wait + time::Clock>(&self, place: &Workplace<'_, R, L>)
+    pub(crate) fn leave<R: Wait + time::Clock, O>(&self, place: &Workplace<'_, R, L, O>)
         requires { self.now.to_idle ≡ 0 }
     {
         place.shared.leave(place.rt);
@@ -170,9 +174,16 @@ impl<L: Law> Seat<L> {
         self.ended = Some(ended);
     }
 
+    /// Outside the space's lock takes up what is offered, if that is better than what its worker has.
+    fn take_offer<R: Wait + time::Clock, O: Offers>(&mut self, place: &Workplace<'_, R, L, O>) {
+        if let Some(offered) = place.offers.offered(self.worker.cost()) {
+            self.worker.consider(place.root, offered);
+        }
+    }
+
     /// Tries its node outside the space's lock; then it commits what is left and takes another node under one
     /// acquisition of the lock, and waits for one if there is none.
-    fn go_on_at<R: Wait + time::Clock>(&mut self, place: &Workplace<'_, R, L>) {
+    fn go_on_at<R: Wait + time::Clock, O: Offers>(&mut self, place: &Workplace<'_, R, L, O>) {
         let due = Due {
             rt: place.rt,
             waiting: place.waiting,
@@ -297,7 +308,7 @@ fn step<L: Law, M: Room<L>>(
 }
 
 /// Waits until there is an open node. The error is how the worker ends: if the space is closed it is done.
-fn wait<R: Wait + time::Clock, L: Law>(place: &Workplace<'_, R, L>) -> Result<(), Ended> {
+fn wait<R: Wait + time::Clock, L: Law, O>(place: &Workplace<'_, R, L, O>) -> Result<(), Ended> {
     place.waiting.fetch_add(1, Ordering::SeqCst);
     let found = place.shared.rd(place.rt, place.nodes);
     place.waiting.fetch_sub(1, Ordering::SeqCst);
@@ -309,7 +320,7 @@ fn wait<R: Wait + time::Clock, L: Law>(place: &Workplace<'_, R, L>) -> Result<()
 }
 
 /// The open node that a worker should take next, if the order says which.
-fn wanted_at<R: Wait + time::Clock, L: Law>(place: &Workplace<'_, R, L>) -> Option<Wanted> {
+fn wanted_at<R: Wait + time::Clock, L: Law, O>(place: &Workplace<'_, R, L, O>) -> Option<Wanted> {
     match place.order {
         Order::Deepest => None,
         Order::Least => place.board.lock(place.rt).take_least(),
@@ -318,8 +329,8 @@ fn wanted_at<R: Wait + time::Clock, L: Law>(place: &Workplace<'_, R, L>) -> Opti
 
 /// Settles the values of a trial, whose commit, if it was accepted, left an incumbent of this cost; then it puts the nodes
 /// that were left open on the board, if workers take nodes from there.
-fn post<R: Wait + time::Clock, L: Law>(
-    place: &Workplace<'_, R, L>,
+fn post<R: Wait + time::Clock, L: Law, O>(
+    place: &Workplace<'_, R, L, O>,
     trial: Trial,
     accepted: Option<i128>,
 ) -> Result<(), AllocError> {

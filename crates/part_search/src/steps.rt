@@ -1,6 +1,6 @@
 //! The steps of a worker's turn, each one call on the space.
 
-ghost use Rattle.std.specs.Prelude.{◌≡◌, ◌≤ℤ◌, [], ℤ, IfErr, IfOk, IfSome, OnOk, true};
+ghost use Rattle.std.specs.Prelude.{◌≡◌, ◌≤ℤ◌, ◌⊎◌, [], ℤ, IfErr, IfOk, IfSome, OnOk, true};
 ghost use Rattle.qap_cost.specs.Instance.{Problem};
 ghost use Rattle.shared_space.specs.Law.{MayCommit};
 ghost use Rattle.shared_space.specs.Refusals.{IsAbortError};
@@ -188,7 +188,8 @@ fn best_at(
 }
 
 /// Keeps the better of two permutations.
-fn keep_better(incumbent: &mut Incumbent, found: Incumbent)
+pub(crate) fn keep_better(incumbent: &mut Incumbent, found: Incumbent)
+    ensures either { (incumbent.new ≡ incumbent.old) ⊎ (incumbent.new ≡ found) }
     ensures incumbent { (I : Problem) → IsIncumbent I incumbent.old → IsIncumbent I found → IsIncumbent I incumbent.new }
     ensures no_worse { incumbent.new.cost ≤ℤ incumbent.old.cost }
     ensures as_good { incumbent.new.cost ≤ℤ found.cost }

@@ -12,6 +12,7 @@ ghost use Rattle.part_search.specs.Worker.{Allows};
 
 use crate::answer::{Answer, answer_of};
 use crate::board::Board;
+use crate::offers::Offers;
 use crate::opening::{LEAST_COST, opening_space};
 use crate::schedule::Task;
 use crate::seat::{Seat, Workplace};
@@ -62,16 +63,19 @@ pub struct Crew {
 ///
 /// The calling thread keeps the space: it advances the moment by the clock, and closes the space when no node is open,
 /// when every worker has left, and when the task's watch requests it. Only that thread consults the watch, and reports
-/// to it how far the search has come. The only error is out of memory.
-pub fn solve<R, S>(
+/// to it how far the search has come. The workers ask for what is found elsewhere; of that they take up what completes the
+/// root and costs less, and the answer has it once they commit. The only error is out of memory.
+pub fn solve<R, S, O>(
     rt: &R,
     alloc: Global,
     task: &Task<'_, S>,
     crew: Crew,
+    offers: &O,
 ) -> Result<Answer, AllocError>
 where
     R: Threads + Wait + time::Clock + Sync,
     S: Watch,
+    O: Offers + Sync,
     requires some { 0 < crew.workers }
     requires few { crew.workers ≤ 64 }
     requires same_size { task.now.root.now.size ≡ (arc_value task.now.ground.now).size }
@@ -79,21 +83,23 @@ where
     ensures answer { IfOk result (IsAnswer (part_from (arc_value task.now.ground.now) task.now.root.now task.now.start.now)) }
     ensures limit { IfOk result (λ a. IsWithin crew.limit a.nodes) }
 {
-    let space = run_of(rt, alloc, task, crew)?;
+    let space = run_of(rt, alloc, task, crew, offers)?;
     let answer = answer_of(alloc, task.ground.instance(), space)?;
     Ok(answer)
 }
 
 /// The space that such a search leaves.
-fn run_of<R, S>(
+fn run_of<R, S, O>(
     rt: &R,
     alloc: Global,
     task: &Task<'_, S>,
     crew: Crew,
+    offers: &O,
 ) -> Result<TxnSpace, AllocError>
 where
     R: Threads + Wait + time::Clock + Sync,
     S: Watch,
+    O: Offers + Sync,
     requires some { 0 < crew.workers }
     requires few { crew.workers ≤ 64 }
     requires same_size { task.now.root.now.size ≡ (arc_value task.now.ground.now).size }
@@ -105,23 +111,25 @@ where
     let start = Incumbent::new(instance, task.start.copy()?);
     let space = opening_space(alloc, instance, task.root, &start)?;
     let blank = Blank::new(u64::from(crew.workers));
-    let left = search::<Brand, R, S>(rt, alloc, task, space, blank, crew)?;
+    let left = search::<Brand, R, S, O>(rt, alloc, task, space, blank, crew, offers)?;
     Ok(left)
 }
 
 /// The same, on a space that is at the opening, under a law that is the search's.
-fn search<L, R, S>(
+fn search<L, R, S, O>(
     rt: &R,
     alloc: Global,
     task: &Task<'_, S>,
     space: TxnSpace,
     blank: Blank,
     crew: Crew,
+    offers: &O,
 ) -> Result<TxnSpace, AllocError>
 where
     L: Law + Send + Sync,
     R: Threads + Wait + time::Clock + Sync,
     S: Watch,
+    O: Offers + Sync,
     requires some { 0 < crew.workers }
     requires blank { IsBlankFor L.name L.parts blank crew.workers }
     requires start { length task.now.start.now ≡ (arc_value task.now.ground.now).size }
@@ -149,6 +157,7 @@ where
         rt,
         alloc,
         shared: &shared,
+        root: task.root,
         nodes: &nodes,
         waiting: &waiting,
         halt: &halt,
@@ -157,6 +166,7 @@ where
         board: &board,
         order: crew.order,
         values: &values,
+        offers,
     };
     work_all(&place, &seats, task.stop);
     let shares = shares_of(room, seats);
@@ -191,11 +201,12 @@ fn seats_for<L: Law, S>(
 
 /// Runs each worker in its own thread, and keeps the space until it is closed. A worker whose thread cannot be started
 /// has left.
-fn work_all<R, L, S>(place: &Workplace<'_, R, L>, seats: &[Mutex<Seat<L>>], watch: &S)
+fn work_all<R, L, S, O>(place: &Workplace<'_, R, L, O>, seats: &[Mutex<Seat<L>>], watch: &S)
 where
     R: Threads + Wait + time::Clock + Sync,
     L: Law + Send + Sync,
     S: Watch,
+    O: Offers + Sync,
 {
     thread::scope(thread::scope_env(), place.rt, |scope| {
         for seat in seats {
@@ -208,14 +219,24 @@ where
 }
 
 /// Lets the worker of a seat work, which then leaves the space.
-fn work<R: Wait + time::Clock, L: Law>(place: &Workplace<'_, R, L>, seat: &Mutex<Seat<L>>) {
+fn work<R, L, O>(place: &Workplace<'_, R, L, O>, seat: &Mutex<Seat<L>>)
+where
+    R: Wait + time::Clock,
+    L: Law,
+    O: Offers,
+{
     let mut seat = seat.lock(place.rt);
     seat.work(place);
     seat.leave(place);
 }
 
 /// Advances the moment by the clock until the space is closed, by itself or because the watch requests it.
-fn keep<R: Wait + time::Clock, L: Law, S: Watch>(place: &Workplace<'_, R, L>, watch: &S) {
+fn keep<R, L, S, O>(place: &Workplace<'_, R, L, O>, watch: &S)
+where
+    R: Wait + time::Clock,
+    L: Law,
+    S: Watch,
+{
     let since = Instant::now(place.rt).ok();
     for _ in place.rt.forever() {
         if watch.is_requested() {
@@ -233,7 +254,7 @@ fn keep<R: Wait + time::Clock, L: Law, S: Watch>(place: &Workplace<'_, R, L>, wa
 }
 
 /// How far the search has come.
-fn progress_at<R: Wait + time::Clock, L: Law>(place: &Workplace<'_, R, L>) -> Progress {
+fn progress_at<R: Wait + time::Clock, L: Law, O>(place: &Workplace<'_, R, L, O>) -> Progress {
     let values = place.values.lock(place.rt);
     Progress {
         tried: place.tried.load(Ordering::SeqCst),

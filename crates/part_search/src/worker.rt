@@ -11,11 +11,12 @@ ghost use Rattle.part_search.specs.declared.stage.Stage.{Stage};
 use crate::aid::Aid;
 use crate::board::Wanted;
 use crate::ground::{Ground, Splitter};
+use crate::offers::take_up;
 use crate::stage::{Outcome, Stage};
 use crate::steps::{abort, begin, commit, take_best, take_node};
 use crate::trying::{Trial, try_taken};
 use crate::tuples::{best_template, node_template};
-use qap_cost::Perm;
+use qap_cost::{Partial, Perm};
 use shared_space::{Law, Room, Share};
 use std::alloc::{AllocError, Global};
 use std::marker::Model;
@@ -104,6 +105,15 @@ impl Worker {
             trial: None,
             is_accepted: false,
         })
+    }
+
+    /// Takes up a permutation found elsewhere, if it completes the root and costs less than the best one that it knows; its next
+    /// commit writes it.
+    pub(crate) fn consider(&mut self, root: &Partial, offered: Perm)
+        ensures { self.new ≡ self.old }
+    {
+        let instance = self.ground.instance();
+        take_up(instance, root, &mut self.incumbent, offered);
     }
 
     /// If it took an open node, splits it and tries its children, outside the space; its next step commits what is

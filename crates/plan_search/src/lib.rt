@@ -11,6 +11,7 @@ mod run_clock;
 mod searching;
 mod standing;
 mod subtrees;
+mod tabu;
 
 pub use improving::improved_below;
 pub use keeper::{Keeper, Progress};

@@ -1,6 +1,7 @@
 //! The options of a search.
 
-ghost use Rattle.std.specs.Prelude.{◌≡◌};
+ghost use Rattle.std.specs.Prelude.{◌<◌, ◌≤◌};
+ghost use Rattle.plan_search.specs.Options.{AreLimited};
 
 use part_search::{Crew, Order};
 use qap_cost::Partial;
@@ -30,6 +31,9 @@ const SEARCHES_IN_TURN: u32 = 8;
 /// With more free facilities than this a proof is rarely in reach.
 const LARGEST_PROVED: u64 = 36;
 
+/// From this many free facilities on it never is.
+const LEAST_UNPROVED: u64 = 40;
+
 /// For how many milliseconds tabu searches continue for each square of a number of facilities above the largest easy one.
 const MS_PER_SQUARE: u64 = 10;
 
@@ -58,10 +62,12 @@ pub struct Options {
 }
 
 impl Options {
-    /// The workers of the search, and its limit. Under a time limit they take the open node with the least value first, so that
-    /// the bound rises.
-    pub fn crew(&self) -> Crew
-        ensures { result.workers ≡ self.now.workers }
+    /// The workers of a search below a root, and its limit. Under a time limit they take the open node with the least value first,
+    /// so that the bound rises.
+    pub fn crew(&self, root: &Partial) -> Crew
+        requires { AreLimited self.now }
+        ensures some { 0 < result.workers }
+        ensures few { result.workers ≤ 64 }
     {
         let order = if self.milliseconds.is_some() {
             Order::Least
@@ -69,12 +75,45 @@ impl Options {
             Order::Deepest
         };
         Crew {
-            workers: self.workers,
+            workers: self.workers - self.tabu_threads(root),
             lease_ms: LEASE_MS,
             turn_ms: TURN_MS,
             order,
             limit: self.nodes,
         }
+    }
+
+    /// How many threads make tabu searches beside the other workers: under a time limit one of several, and from 40 free facilities
+    /// on all but one.
+    pub fn tabu_threads(&self, root: &Partial) -> u16
+        requires { AreLimited self.now }
+        ensures { result < self.now.workers }
+    {
+        if self.workers < 2 || !self.has_tabu_beside(root) {
+            0
+        } else if free_in(root) < LEAST_UNPROVED {
+            1
+        } else {
+            self.workers - 1
+        }
+    }
+
+    /// How many milliseconds the first turn of tabu searches takes where a single worker is under a time limit: a tenth of that.
+    pub fn first_turn_ms(&self, root: &Partial) -> Option<u64> {
+        if self.workers < 2 && self.has_tabu_beside(root) {
+            Some(self.milliseconds? / 10)
+        } else {
+            None
+        }
+    }
+
+    /// Whether tabu searches go on beside a search: under a time limit, unless a number of iterations is given, the proof is to be
+    /// assembled, or few facilities are free.
+    fn has_tabu_beside(&self, root: &Partial) -> bool {
+        self.milliseconds.is_some()
+            && self.improve.is_none()
+            && !self.proves
+            && free_in(root) > LARGEST_EASY
     }
 
     /// The tabu search before it.
@@ -86,27 +125,24 @@ impl Options {
         }
     }
 
-    /// How many more follow it in turn: some, unless a number of iterations is given, few facilities are free, or searches side by
-    /// side follow.
+    /// How many more follow it in turn: some, unless a number of iterations is given, or few facilities are free.
     pub fn searches_in_turn(&self, root: &Partial) -> u32 {
-        let free = free_in(root);
-        let has_others = self.milliseconds.is_some() && free > LARGEST_EASY;
-        if self.improve.is_some() || free <= LARGEST_FOR_ONE || has_others {
+        if self.improve.is_some() || free_in(root) <= LARGEST_FOR_ONE {
             0
         } else {
             SEARCHES_IN_TURN
         }
     }
 
-    /// Until how many milliseconds after the beginning of the run tabu searches continue side by side after these: where no
-    /// number of iterations is given, for a part of the time limit that grows with the number of facilities that the root
-    /// leaves free. From 37 on, where a proof is rarely in reach, that is three quarters of it.
+    /// Until how many milliseconds after the beginning of the run tabu searches continue side by side after these: where the
+    /// proof is to be assembled and no number of iterations is given, for a part of the time limit that grows with the number of
+    /// facilities that the root leaves free. From 37 on, where a proof is rarely in reach, that is three quarters of it.
     pub fn improving_until(&self, root: &Partial) -> Option<u64> {
         let limit = self.milliseconds?;
-        if self.improve.is_some() {
+        let free = free_in(root);
+        if self.improve.is_some() || !self.proves || free <= LARGEST_EASY {
             return None;
         }
-        let free = free_in(root);
         if free > LARGEST_PROVED {
             return Some(limit.saturating_sub(limit / 4));
         }

@@ -1,27 +1,30 @@
 //! Searches below a root by workers on subtrees.
 
 ghost use Rattle.std.specs.Arc.{arc_value};
-ghost use Rattle.std.specs.Prelude.{IfOk, IfSome, None, ℕ, ℤ, ◌<◌, ◌≡◌, ◌≤ℤ◌, ◌≤◌};
+ghost use Rattle.std.specs.Prelude.{IfOk, IfSome, List, None, ℕ, ℤ, ◌<◌, ◌≡◌, ◌≤ℤ◌, ◌≤◌};
 ghost use Rattle.qap_cost.specs.Objective.{Permutes, cost_of};
+ghost use Rattle.qap_cost.specs.Placement.{Completes};
 ghost use Rattle.subtree_search.specs.Closed.{IsClosed};
 ghost use Rattle.plan_search.specs.Keeping.{IsSearched};
 ghost use Rattle.plan_search.specs.Options.{AreLimited};
 
+use crate::improving::is_better;
 use crate::keeper::{Keeper, Progress};
 use crate::memory_limit::WithinMemory;
 use crate::options::{Options, free_in};
 use crate::planning::Planned;
+use crate::tabu::Tabu;
 use dual_ascent::Effort;
 use gilmore_lawler::RankedInstance;
 use node_split::NodeSplit;
-use part_search::{Answer, Crew, Ground, Task, Watch, solve};
+use part_search::{Answer, Crew, Ground, Offers, Task, Watch, solve};
 use qap_cost::{Instance, Partial, Perm, cost};
 use std::alloc::{AllocError, Global};
 use std::cell::Cell;
 use std::sync::{Arc, Wait};
 use std::thread::Threads;
-use std::time;
-use subtree_search::Stop;
+use std::{thread, time};
+use subtree_search::{Never, Stop};
 
 /// The most free facilities with which a root is searched under pair duals: finding them takes memory with the fourth power
 /// of their number.
@@ -43,7 +46,8 @@ const EASY_NODES: u64 = 500;
 /// In how many rounds of the thread that keeps the space the progress is shown once.
 const ROUNDS_PER_LOOK: u32 = 128;
 
-/// Searches below a root from a permutation on, to the end or until a limit is reached or a stop is requested.
+/// Searches below a root from a permutation on, to the end or until a limit is reached or a stop is requested. Under a time limit
+/// tabu searches go on beside it for the whole time; the best permutation that they find counts too.
 pub(crate) fn search_subtrees<T, K>(
     system: &T,
     alloc: Global,
@@ -63,11 +67,82 @@ where
     ensures proof { IfOk result (λ x. x.proof ≡ None) }
     ensures pair_proof { IfOk result (λ x. x.pair_proof ≡ None) }
 {
+    let first_ms = options.first_turn_ms(root);
+    let tabu = Tabu::new(system, alloc, instance, root, start, options.seed)?.with_turns(first_ms);
     let watcher = Watcher {
         within,
+        tabu: &tabu,
         looks: Cell::new(0),
     };
-    let easy = searched_briefly(system, alloc, instance, root, start, options, &watcher)?;
+    let found = searched_beside(system, alloc, instance, root, start, options, &watcher)?;
+    let best = tabu.best()?;
+    Ok(with_better(instance, root, found, best))
+}
+
+/// What a search by workers yields, beside which tabu searches go on in threads of their own until it ends.
+fn searched_beside<T, K>(
+    system: &T,
+    alloc: Global,
+    instance: &Instance,
+    root: &Partial,
+    start: &Perm,
+    options: &Options,
+    watcher: &Watcher<'_, '_, '_, T, K>,
+) -> Result<Planned, AllocError>
+where
+    T: Threads + Wait + time::Clock + Sync,
+    K: Keeper,
+    requires limited { AreLimited options.now }
+    requires start { Permutes instance.now start.now }
+    requires same_size { root.now.size ≡ instance.now.size }
+    ensures searched { IfOk result (λ x. IsSearched instance.now root.now start.now x.permutation x.cost x.bound) }
+    ensures proof { IfOk result (λ x. x.proof ≡ None) }
+    ensures pair_proof { IfOk result (λ x. x.pair_proof ≡ None) }
+{
+    let tabu = watcher.tabu;
+    thread::scope(
+        thread::scope_env(),
+        system,
+        |scope| -> Result<Planned, AllocError>
+            requires limited { AreLimited options.now }
+            requires start { Permutes instance.now start.now }
+            requires same_size { root.now.size ≡ instance.now.size }
+            ensures searched { IfOk result (λ x. IsSearched instance.entry.now root.entry.now start.entry.now x.permutation x.cost x.bound) }
+            ensures proof { IfOk result (λ x. x.proof ≡ None) }
+            ensures pair_proof { IfOk result (λ x. x.pair_proof ≡ None) }
+        {
+            for number in 0..options.tabu_threads(root) {
+                // A search whose thread cannot be started is left out.
+                let _ = scope.spawn(move || tabu.search(number));
+            }
+            let found = searched_by_workers(system, alloc, instance, root, start, options, watcher);
+            tabu.halt();
+            found
+        },
+    )
+}
+
+/// What a search by workers yields.
+fn searched_by_workers<T, K>(
+    system: &T,
+    alloc: Global,
+    instance: &Instance,
+    root: &Partial,
+    start: &Perm,
+    options: &Options,
+    watcher: &Watcher<'_, '_, '_, T, K>,
+) -> Result<Planned, AllocError>
+where
+    T: Threads + Wait + time::Clock + Sync,
+    K: Keeper,
+    requires limited { AreLimited options.now }
+    requires start { Permutes instance.now start.now }
+    requires same_size { root.now.size ≡ instance.now.size }
+    ensures searched { IfOk result (λ x. IsSearched instance.now root.now start.now x.permutation x.cost x.bound) }
+    ensures proof { IfOk result (λ x. x.proof ≡ None) }
+    ensures pair_proof { IfOk result (λ x. x.pair_proof ≡ None) }
+{
+    let easy = searched_briefly(system, alloc, instance, root, start, options, watcher)?;
     if let Some(found) = easy {
         return Ok(found);
     }
@@ -77,14 +152,57 @@ where
         ground: &ground,
         root,
         start,
-        stop: &watcher,
+        stop: watcher,
     };
-    let found = searched_on(system, alloc, instance, &task, options.crew())?;
+    let crew = options.crew(root);
+    let found = searched_on(system, alloc, instance, &task, crew, watcher.tabu)?;
     if found.open_nodes == 0 {
         return Ok(found);
     }
     let bound = root_bound(alloc, instance, root)?;
     Ok(with_bound(found, bound))
+}
+
+/// What a search has found, with this permutation if it completes the root and costs less. The bound stays.
+fn with_better(instance: &Instance, root: &Partial, found: Planned, best: Perm) -> Planned
+    requires same_size { root.now.size ≡ instance.now.size }
+    requires permutes { Permutes instance.now found.permutation }
+    requires costs { cost_of instance.now found.permutation ≡ found.cost }
+    ensures searched { (first : List ℕ) → IsSearched instance.now root.now first found.permutation found.cost found.bound →
+        IsSearched instance.now root.now first result.permutation result.cost result.bound }
+    ensures taken { Completes root.now best → result.cost ≤ℤ cost_of instance.now best }
+    ensures bound { result.bound ≡ found.bound }
+    ensures proof { found.proof ≡ None → result.proof ≡ None }
+    ensures pair_proof { found.pair_proof ≡ None → result.pair_proof ≡ None }
+{
+    if is_better(instance, root, &best, &found.permutation) {
+        return with_permutation(instance, root, found, best);
+    }
+    found
+}
+
+/// The same with this permutation, which completes the root and costs no more.
+fn with_permutation(instance: &Instance, root: &Partial, found: Planned, best: Perm) -> Planned
+    requires same_size { root.now.size ≡ instance.now.size }
+    requires completes { Completes root.now best }
+    requires less { cost_of instance.now best ≤ℤ cost_of instance.now found.permutation }
+    ensures searched { (first : List ℕ) → IsSearched instance.now root.now first found.permutation found.cost found.bound →
+        IsSearched instance.now root.now first result.permutation result.cost result.bound }
+    ensures cost { result.cost ≡ cost_of instance.now best }
+    ensures bound { result.bound ≡ found.bound }
+    ensures proof { result.proof ≡ None }
+    ensures pair_proof { result.pair_proof ≡ None }
+{
+    let cost = cost(instance, &best);
+    Planned {
+        permutation: best,
+        cost,
+        bound: found.bound,
+        nodes: found.nodes,
+        open_nodes: found.open_nodes,
+        proof: None,
+        pair_proof: None,
+    }
 }
 
 /// What a search by the bounds of Gilmore and Lawler yields if it ends within a few nodes; `None` if it does not, or if
@@ -96,7 +214,7 @@ fn searched_briefly<T, K>(
     root: &Partial,
     start: &Perm,
     options: &Options,
-    watcher: &Watcher<'_, '_, K>,
+    watcher: &Watcher<'_, '_, '_, T, K>,
 ) -> Result<Option<Planned>, AllocError>
 where
     T: Threads + Wait + time::Clock + Sync,
@@ -120,9 +238,9 @@ where
     };
     let crew = Crew {
         limit: Some(EASY_NODES),
-        ..options.crew()
+        ..options.crew(root)
     };
-    let found = searched_on(system, alloc, instance, &task, crew)?;
+    let found = searched_on(system, alloc, instance, &task, crew, &Never)?;
     if found.open_nodes == 0 {
         Ok(Some(found))
     } else {
@@ -130,17 +248,19 @@ where
     }
 }
 
-/// What a search by these workers yields.
-fn searched_on<T, S>(
+/// What a search by these workers yields, who take up what is offered.
+fn searched_on<T, S, O>(
     system: &T,
     alloc: Global,
     instance: &Instance,
     task: &Task<'_, S>,
     crew: Crew,
+    offers: &O,
 ) -> Result<Planned, AllocError>
 where
     T: Threads + Wait + time::Clock + Sync,
     S: Watch,
+    O: Offers + Sync,
     requires some { 0 < crew.workers }
     requires few { crew.workers ≤ 64 }
     requires same { arc_value task.now.ground.now ≡ instance.now }
@@ -150,7 +270,7 @@ where
     ensures proof { IfOk result (λ x. x.proof ≡ None) }
     ensures pair_proof { IfOk result (λ x. x.pair_proof ≡ None) }
 {
-    let answer = solve(system, alloc, task, crew)?;
+    let answer = solve(system, alloc, task, crew, offers)?;
     let found = found_by(&answer)?;
     Ok(found)
 }
@@ -236,30 +356,37 @@ fn with_bound(found: Planned, bound: i128) -> Planned
     Planned { bound, ..found }
 }
 
-/// Stops a search if a keeper requests it, and reports its progress to that keeper.
+/// Stops a search and the tabu searches beside it if a keeper requests it, and reports their progress to that keeper.
 #[derive(Drop)]
-struct Watcher<'a, 'k, K: Keeper> {
+struct Watcher<'a, 'k, 't, T, K: Keeper> {
     within: &'a WithinMemory<'k, K>,
+    /// The tabu searches beside it.
+    tabu: &'a Tabu<'t, T>,
     /// The number of rounds of the thread that keeps the space so far.
     looks: Cell<u32>,
 }
 
-impl<K: Keeper> Stop for Watcher<'_, '_, K> {
+impl<T: Wait + time::Clock, K: Keeper> Stop for Watcher<'_, '_, '_, T, K> {
     ghost says = { λ _ _. Unit {0} };
 
     fn is_requested(&self) -> bool {
-        self.within.is_wanted()
+        let is_wanted = self.within.is_wanted();
+        if is_wanted {
+            self.tabu.halt();
+        }
+        is_wanted
     }
 }
 
-impl<K: Keeper> Watch for Watcher<'_, '_, K> {
+impl<T: Wait + time::Clock, K: Keeper> Watch for Watcher<'_, '_, '_, T, K> {
     fn see(&self, progress: &part_search::Progress) {
         let looks = self.looks.get().wrapping_add(1);
         self.looks.set(looks);
         if looks % ROUNDS_PER_LOOK == 0 && self.within.is_watching() {
+            let cost = progress.cost.min(self.tabu.cost());
             self.within.see(&Progress {
-                cost: Some(progress.cost),
-                bound: progress.least.map(|least| least.min(progress.cost)),
+                cost: Some(cost),
+                bound: progress.least.map(|least| least.min(cost)),
                 decided: progress.tried,
             });
         }

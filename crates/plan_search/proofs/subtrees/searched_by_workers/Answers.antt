@@ -1,7 +1,7 @@
 use Rattle.std.proofs.Common.{◌≡◌, ℤ, ◌≤ℤ◌, of_z, rules, subst, to_z}
 use Rattle.std.specs.Int.{w128}
 use Rattle.qap_cost.specs.Objective.{cost_of}
-use Rattle.plan_search.proofs.subtrees.search_subtrees.Goals as goal
+use Rattle.plan_search.proofs.subtrees.searched_by_workers.Goals as goal
 
 pub returns-clause-searched : goal.returns-clause-searched
 returns-clause-searched g c =
