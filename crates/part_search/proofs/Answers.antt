@@ -9,6 +9,7 @@ use Rattle.subtree_search.specs.Best.{Best, IsIncumbent}
 use Rattle.tuple_match.specs.FieldValue.{FieldValue}
 use Rattle.part_search.specs.Answer.{IsAnswer, IsAtMost, IsLesser, SurveysFirst}
 use Rattle.part_search.specs.Law.{IsSearched, Part}
+use Rattle.part_search.specs.Ran.{IsReadFrom}
 use Rattle.part_search.specs.Tuples.{OpenNode, best_tuple, is_open, node_tuple}
 use Rattle.part_search.specs.declared.answer.Survey.{Survey}
 use Rattle.part_search.proofs.Bounds.{best_only, bound}
@@ -31,6 +32,20 @@ answered n S I content tuples s b g instance same h surveyed found below least n
           at_most s.least g o.value least (surveyed.values t.0 (node_tuple o) t.1 o t.2));
       below = below;
       optimal = λ no_open. none (surveyed.none no_open);
+    }
+
+-- what is read from the tuples
+pub read_from : (n : ℕ) (I : Problem) (content tuples : Content) (s : Survey) (b : Best) (g : ℤ) → tuples ≡ content → SurveysFirst I tuples (length tuples) s → s.best ≡ Some b → IfSome s.least (λ l. g ≤ℤ l) → IsReadFrom content (record { best = b; bound = g; nodes = n; open_nodes = s.open_nodes })
+read_from n I content tuples s b g same surveyed found least =
+    let at : Contains tuples (best_tuple b) = subst (λ (o : Option Best). IfSome o (λ x. Contains tuples (best_tuple x))) found surveyed.best in
+    let value : (o : OpenNode) → Contains content (node_tuple o) → IsAtMost s.least o.value =
+        λ o there.
+          let t = subst (λ (c : Content). Contains c (node_tuple o)) (sym same) there in
+          surveyed.values t.0 (node_tuple o) t.1 o t.2 in
+    record {
+      best = subst (λ (c : Content). Contains c (best_tuple b)) same at;
+      below = λ o there. at_most s.least g o.value least (value o there);
+      none_open = λ none o there. subst (λ (l : Option ℤ). IsAtMost l o.value) (surveyed.none none) (value o there);
     }
 
 -- an open node more

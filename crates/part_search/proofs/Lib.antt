@@ -1,4 +1,5 @@
 pub mod Answers
+pub mod Behind
 pub mod Bounds
 pub mod Children
 pub mod Commits

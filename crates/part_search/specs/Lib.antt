@@ -3,6 +3,7 @@ pub mod Covers
 pub mod Ground
 pub mod Law
 pub mod Opening
+pub mod Ran
 pub mod Replacement
 pub mod Schedule
 pub mod Tuples

@@ -96,9 +96,18 @@ steps_to_idle (Tried t) = 3
 steps_to_idle (Ready t) = 2
 steps_to_idle (GivingUp t) = 1
 
--- a worker: its instance, and after how many steps at most it has no transaction, unless memory runs out
-pub record WorkerValue : Type 0 where
+-- what a worker works on: the instance, and the lease in milliseconds with which its transactions begin
+pub record Job : Type 0 where
   pub instance : Problem
+  pub lease : ℕ
+
+-- the job with these
+abbrev pub job_of : Problem → ℕ → Job
+job_of I lease = record { instance = I; lease = lease }
+
+-- a worker: its job, and after how many steps at most it has no transaction, unless memory runs out
+pub record WorkerValue : Type 0 where
+  pub job : Job
   pub to_idle : ℕ
 
 -- it has no transaction
@@ -120,10 +129,10 @@ pub record SeatValue : Type 0 where
 abbrev pub Leaves : SeatValue → SeatValue → Type 0
 Leaves old new = old.ended ≡ true → new.to_idle ≡ 0
 
--- the law of the space allows each commit that replaces an open node of the instance, and a transaction's beginning with any lease
-pub record Allows (I : Problem) (allowed : Content → Content → Content → Type 0) (begins : ℕ → Type 0) : Type 0 where
-  pub commits : (gone kept added : Content) → MayReplace I gone kept added → allowed gone kept added
-  pub leases : (lease : ℕ) → begins lease
+-- the law of the space allows each commit that replaces an open node of the job's instance, and a transaction's beginning with its lease
+pub record Allows (J : Job) (allowed : Content → Content → Content → Type 0) (begins : ℕ → Type 0) : Type 0 where
+  pub commits : (gone kept added : Content) → MayReplace J.instance gone kept added → allowed gone kept added
+  pub lease : begins J.lease
 
 -- the beginning of a transaction, or a call on one
 abbrev pub IsCall : Event → Type 0

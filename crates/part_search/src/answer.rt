@@ -4,6 +4,7 @@ ghost use Rattle.std.specs.Prelude.{◌≡◌, ◌<◌, ◌≤ℤ◌, IfOk, IfSo
 ghost use Rattle.space_txn.specs.Content.{content_of};
 ghost use Rattle.part_search.specs.Answer.{IsAnswer, IsLesser, Surveys};
 ghost use Rattle.part_search.specs.Law.{IsSearched, Part};
+ghost use Rattle.part_search.specs.Ran.{IsReadFrom};
 ghost use Rattle.part_search.specs.Tuples.{OpenNode, node_tuple};
 
 use crate::law::{best_law, bound_law};
@@ -40,6 +41,7 @@ pub(crate) struct Survey {
 pub fn answer_of(alloc: Global, instance: &Instance, space: TxnSpace) -> Result<Answer, AllocError>
     ensures answer { IfOk result (λ a. (S : Part) → S.instance ≡ instance.now → IsSearched S (content_of space) → IsAnswer S a) }
     ensures nodes { IfOk result (λ a. a.nodes ≡ space.commits) }
+    ensures read { IfOk result (IsReadFrom (content_of space)) }
 {
     best_law();
     bound_law();

@@ -2,14 +2,13 @@
 
 ghost use Rattle.std.specs.Prelude.{◌≡◌, ◌<◌, ◌≤◌, nat_lt, All, IfOk, None, OnOk, ℕ, length, vec_len};
 ghost use Rattle.std.specs.Arc.{arc_value};
-ghost use Rattle.qap_cost.specs.Instance.{Problem};
 ghost use Rattle.shared_space.specs.Event.{Did};
 ghost use Rattle.shared_space.specs.Opening.{IsBlankFor, opened};
 ghost use Rattle.subtree_search.specs.Best.{IsIncumbent};
 ghost use Rattle.part_search.specs.Law.{IsLawOf};
 ghost use Rattle.part_search.specs.Opening.{IsOpening, part_from};
 ghost use Rattle.part_search.specs.Schedule.{IsRun, Moves, Turns};
-ghost use Rattle.part_search.specs.Worker.{Allows, Made};
+ghost use Rattle.part_search.specs.Worker.{Allows, Job, Made, job_of};
 
 use crate::aid;
 use crate::ground::Ground;
@@ -85,7 +84,7 @@ fn follow<L: Law, S: Stop>(
     requires few { workers ≤ 64 }
     requires start { length task.now.start.now ≡ (arc_value task.now.ground.now).size }
     requires law { IsLawOf (part_from (arc_value task.now.ground.now) task.now.root.now task.now.start.now) L.lawful L.allowed }
-    requires leases { (lease : ℕ) → L.begins lease }
+    requires lease { L.begins 1000 }
     requires limit { L.limit ≡ None }
     requires opening { IsOpening (part_from (arc_value task.now.ground.now) task.now.root.now task.now.start.now) space }
     requires reached { L.reached (opened space workers None) }
@@ -102,7 +101,7 @@ fn follow<L: Law, S: Stop>(
     Ok(room.into_space())
 }
 
-/// Where one worker is, with the share of all who was there. It is seen as the instance.
+/// Where one worker is, with the share of all who was there. It is seen as the worker's job.
 #[derive(Drop)]
 struct Post<L: Law> {
     worker: Worker,
@@ -111,37 +110,36 @@ struct Post<L: Law> {
 
 impl<L: Law> Model for Post<L> {
     ghost use Rattle.std.specs.Prelude.{◌≡◌, None};
-    ghost use Rattle.qap_cost.specs.Instance.{Problem};
-    ghost use Rattle.part_search.specs.Worker.{Allows};
+    ghost use Rattle.part_search.specs.Worker.{Allows, Job};
 
-    ghost Value = { Problem };
+    ghost Value = { Job };
 
-    ghost view = { λ p. p.worker.instance };
+    ghost view = { λ p. p.worker.job };
 
-    ghost invariant = { λ p. Allows p.worker.instance L.allowed L.begins × (L.limit ≡ None) };
+    ghost invariant = { λ p. Allows p.worker.job L.allowed L.begins × (L.limit ≡ None) };
 }
 
 impl<L: Law> Post<L> {
     /// The place of a worker with its share.
     fn new(worker: Worker, share: Share<L>) -> Post<L>
-        requires allows { Allows worker.instance L.allowed L.begins }
+        requires allows { Allows worker.job L.allowed L.begins }
         requires limit { L.limit ≡ None }
-        ensures { result ≡ worker.instance }
+        ensures { result ≡ worker.job }
     {
         Post { worker, share }
     }
 
     /// The worker's next step; it tries the node that it took then.
     fn turn<S: Stop>(&mut self, room: &mut Alone<L>, stop: &S) -> Result<(), AllocError>
-        ensures made { Made Did self.old room.old room.new }
-        ensures instance { self.new ≡ self.old }
+        ensures made { Made Did self.old.instance room.old room.new }
+        ensures job { self.new ≡ self.old }
     {
         turn_of(&mut self.worker, &mut self.share, room, stop)
     }
 
     /// Puts a worker in the place of the one who is there, who is lost with its transaction.
     fn put(&mut self, worker: Worker)
-        requires { worker.instance ≡ self.old }
+        requires { worker.job ≡ self.old }
         ensures { self.new ≡ self.old }
     {
         self.worker = worker;
@@ -155,10 +153,10 @@ fn turn_of<L: Law, S: Stop>(
     room: &mut Alone<L>,
     stop: &S,
 ) -> Result<(), AllocError>
-    requires allows { Allows worker.old.instance L.allowed L.begins }
+    requires allows { Allows worker.old.job L.allowed L.begins }
     requires limit { L.limit ≡ None }
-    ensures made { Made Did worker.old.instance room.old room.new }
-    ensures instance { worker.new.instance ≡ worker.old.instance }
+    ensures made { Made Did worker.old.job.instance room.old room.new }
+    ensures job { worker.new.job ≡ worker.old.job }
 {
     step_of(worker, share, room)?;
     worker.try_node(&aid::Alone(stop))
@@ -170,10 +168,10 @@ fn step_of<L: Law>(
     share: &mut Share<L>,
     room: &mut Alone<L>,
 ) -> Result<bool, AllocError>
-    requires allows { Allows worker.old.instance L.allowed L.begins }
+    requires allows { Allows worker.old.job L.allowed L.begins }
     requires limit { L.limit ≡ None }
-    ensures made { Made Did worker.old.instance room.old room.new }
-    ensures instance { worker.new.instance ≡ worker.old.instance }
+    ensures made { Made Did worker.old.job.instance room.old room.new }
+    ensures job { worker.new.job ≡ worker.old.job }
 {
     no_limit_law();
     worker.step(room, share)
@@ -182,7 +180,7 @@ fn step_of<L: Law>(
 /// A worker who has done nothing yet.
 fn new_worker<S: Stop>(alloc: Global, task: &Task<'_, S>) -> Result<Worker, AllocError>
     requires start { length task.now.start.now ≡ (arc_value task.now.ground.now).size }
-    ensures { IfOk result (λ worker. worker.instance ≡ arc_value task.now.ground.now) }
+    ensures { IfOk result (λ worker. worker.job ≡ job_of (arc_value task.now.ground.now) 1000) }
 {
     Worker::new(alloc, task.ground.clone()?, task.start.copy()?, LEASE_MS)
 }
@@ -194,10 +192,10 @@ fn posts_for<L: Law, S: Stop>(
     shares: Vec<Share<L>>,
 ) -> Result<Vec<Post<L>>, AllocError>
     requires start { length task.now.start.now ≡ (arc_value task.now.ground.now).size }
-    requires law { Allows (arc_value task.now.ground.now) L.allowed L.begins }
+    requires law { Allows (job_of (arc_value task.now.ground.now) 1000) L.allowed L.begins }
     requires limit { L.limit ≡ None }
     ensures count { IfOk result (λ posts. vec_len posts ≡ vec_len shares) }
-    ensures instance { IfOk result (λ posts. All (λ (I : Problem). I ≡ arc_value task.now.ground.now) posts.items) }
+    ensures job { IfOk result (λ posts. All (λ (J : Job). J ≡ job_of (arc_value task.now.ground.now) 1000) posts.items) }
 {
     let mut posts = Vec::with_capacity(alloc, shares.len())?;
     let mut rest = shares;
@@ -216,9 +214,9 @@ fn make<L: Law, S: Stop>(
     room: &mut Alone<L>,
 ) -> Result<(), AllocError>
     requires start { length task.now.start.now ≡ (arc_value task.now.ground.now).size }
-    requires instance { All (λ (I : Problem). I ≡ arc_value task.now.ground.now) posts.old.items }
+    requires job { All (λ (J : Job). J ≡ job_of (arc_value task.now.ground.now) 1000) posts.old.items }
     ensures moves { OnOk result (Moves (arc_value task.now.ground.now) (vec_len posts.old) room.old step room.new) }
-    ensures instance { OnOk result (All (λ (I : Problem). I ≡ arc_value task.now.ground.now) posts.new.items) }
+    ensures job { OnOk result (All (λ (J : Job). J ≡ job_of (arc_value task.now.ground.now) 1000) posts.new.items) }
     ensures count { OnOk result (vec_len posts.new ≡ vec_len posts.old) }
 {
     match step {
@@ -238,8 +236,8 @@ fn turn<L: Law, S: Stop>(
     posts: &mut Vec<Post<L>>,
     room: &mut Alone<L>,
 ) -> Result<(), AllocError>
-    ensures turn { (I : Problem) → All (λ (J : Problem). J ≡ I) posts.old.items → OnOk result (Turns I (nat_lt worker (vec_len posts.old)) room.old room.new) }
-    ensures instance { (I : Problem) → All (λ (J : Problem). J ≡ I) posts.old.items → OnOk result (All (λ (J : Problem). J ≡ I) posts.new.items) }
+    ensures turn { (J : Job) → All (λ (K : Job). K ≡ J) posts.old.items → OnOk result (Turns J.instance (nat_lt worker (vec_len posts.old)) room.old room.new) }
+    ensures job { (J : Job) → All (λ (K : Job). K ≡ J) posts.old.items → OnOk result (All (λ (K : Job). K ≡ J) posts.new.items) }
     ensures count { OnOk result (vec_len posts.new ≡ vec_len posts.old) }
 {
     if worker < posts.len() {
@@ -256,8 +254,8 @@ fn lose<L: Law, S: Stop>(
     posts: &mut Vec<Post<L>>,
 ) -> Result<(), AllocError>
     requires start { length task.now.start.now ≡ (arc_value task.now.ground.now).size }
-    requires instance { All (λ (I : Problem). I ≡ arc_value task.now.ground.now) posts.old.items }
-    ensures instance { OnOk result (All (λ (I : Problem). I ≡ arc_value task.now.ground.now) posts.new.items) }
+    requires job { All (λ (J : Job). J ≡ job_of (arc_value task.now.ground.now) 1000) posts.old.items }
+    ensures job { OnOk result (All (λ (J : Job). J ≡ job_of (arc_value task.now.ground.now) 1000) posts.new.items) }
     ensures count { OnOk result (vec_len posts.new ≡ vec_len posts.old) }
 {
     if worker < posts.len() {

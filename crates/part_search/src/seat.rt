@@ -118,13 +118,13 @@ impl<L: Law> Model for Seat<L> {
 
     ghost view = { λ s. record { share = s.share; ended = is_some s.ended; to_idle = s.worker.to_idle } };
 
-    ghost invariant = { λ s. Allows s.worker.instance L.allowed L.begins × (is_some s.ended ≡ true → IsLeaving s.worker) };
+    ghost invariant = { λ s. Allows s.worker.job L.allowed L.begins × (is_some s.ended ≡ true → IsLeaving s.worker) };
 }
 
 impl<L: Law> Seat<L> {
     /// A worker that hasn't begun, with its share.
     pub(crate) fn new(worker: Worker, share: Share<L>) -> Seat<L>
-        requires { Allows worker.instance L.allowed L.begins }
+        requires { Allows worker.job L.allowed L.begins }
         ensures { result.share ≡ share }
     {
         Seat {
@@ -247,8 +247,8 @@ fn go_on<L: Law, M: Room<L>>(
     worker: &mut Worker,
     share: &mut Share<L>,
 ) -> Result<bool, Ended>
-    requires { Allows worker.old.instance L.allowed L.begins }
-    ensures { worker.new.instance ≡ worker.old.instance }
+    requires { Allows worker.old.job L.allowed L.begins }
+    ensures { worker.new.job ≡ worker.old.job }
 {
     finish(room, worker, share)?;
     if room.closed() {
@@ -269,8 +269,8 @@ fn finish<L: Law, M: Room<L>>(
     worker: &mut Worker,
     share: &mut Share<L>,
 ) -> Result<(), Ended>
-    requires { Allows worker.old.instance L.allowed L.begins }
-    ensures { worker.new.instance ≡ worker.old.instance }
+    requires { Allows worker.old.job L.allowed L.begins }
+    ensures { worker.new.job ≡ worker.old.job }
 {
     for _ in 0..STEPS_TO_IDLE {
         if !worker.is_idle() {
@@ -282,9 +282,9 @@ fn finish<L: Law, M: Room<L>>(
 
 /// Ends the transaction of a worker that gives its node up, if it has one.
 fn abandon<L: Law, M: Room<L>>(room: &mut M, worker: &mut Worker, share: &mut Share<L>)
-    requires allows { Allows worker.old.instance L.allowed L.begins }
+    requires allows { Allows worker.old.job L.allowed L.begins }
     requires leaving { IsLeaving worker.old }
-    ensures instance { worker.new.instance ≡ worker.old.instance }
+    ensures job { worker.new.job ≡ worker.old.job }
     ensures idle { IsIdle worker.new }
 {
     if !worker.is_idle() {
@@ -298,8 +298,8 @@ fn step<L: Law, M: Room<L>>(
     worker: &mut Worker,
     share: &mut Share<L>,
 ) -> Result<(), Ended>
-    requires { Allows worker.old.instance L.allowed L.begins }
-    ensures { worker.new.instance ≡ worker.old.instance }
+    requires { Allows worker.old.job L.allowed L.begins }
+    ensures { worker.new.job ≡ worker.old.job }
 {
     match worker.step(room, share) {
         Ok(_) => Ok(()),

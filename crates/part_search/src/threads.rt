@@ -1,14 +1,16 @@
 //! A search by several workers, each in its own thread.
 
-ghost use Rattle.std.specs.Prelude.{ℕ, ◌≡◌, ◌<◌, ◌≤◌, [], IfOk, length, vec_capacity, vec_len};
+ghost use Rattle.std.specs.Prelude.{◌≡◌, ◌<◌, ◌≤◌, [], IfOk, length, vec_capacity, vec_len};
 ghost use Rattle.std.specs.Arc.{arc_value};
 ghost use Rattle.shared_space.specs.Limit.{IsWithin};
 ghost use Rattle.shared_space.specs.Opening.{IsBlankFor, opened};
+ghost use Rattle.shared_space.specs.Run.{IsReached};
 ghost use Rattle.space_txn.specs.Content.{content_of};
 ghost use Rattle.part_search.specs.Answer.{IsAnswer};
 ghost use Rattle.part_search.specs.Law.{IsLawOf, IsSearched, Part};
 ghost use Rattle.part_search.specs.Opening.{IsOpening, part_from};
-ghost use Rattle.part_search.specs.Worker.{Allows};
+ghost use Rattle.part_search.specs.Ran.{Ran, RanTo};
+ghost use Rattle.part_search.specs.Worker.{Allows, job_of};
 
 use crate::answer::{Answer, answer_of};
 use crate::board::Board;
@@ -82,6 +84,7 @@ where
     requires start { length task.now.start.now ≡ (arc_value task.now.ground.now).size }
     ensures answer { IfOk result (IsAnswer (part_from (arc_value task.now.ground.now) task.now.root.now task.now.start.now)) }
     ensures limit { IfOk result (λ a. IsWithin crew.limit a.nodes) }
+    ensures ran { IfOk result (Ran (part_from (arc_value task.now.ground.now) task.now.root.now task.now.start.now) crew) }
 {
     let space = run_of(rt, alloc, task, crew, offers)?;
     let answer = answer_of(alloc, task.ground.instance(), space)?;
@@ -106,6 +109,7 @@ where
     requires start { length task.now.start.now ≡ (arc_value task.now.ground.now).size }
     ensures searched { IfOk result (λ space. IsSearched (part_from (arc_value task.now.ground.now) task.now.root.now task.now.start.now) (content_of space)) }
     ensures limit { IfOk result (λ space. IsWithin crew.limit space.commits) }
+    ensures ran { IfOk result (RanTo (part_from (arc_value task.now.ground.now) task.now.root.now task.now.start.now) crew) }
 {
     let instance = task.ground.instance();
     let start = Incumbent::new(instance, task.start.copy()?);
@@ -134,12 +138,13 @@ where
     requires blank { IsBlankFor L.name L.parts blank crew.workers }
     requires start { length task.now.start.now ≡ (arc_value task.now.ground.now).size }
     requires law { IsLawOf (part_from (arc_value task.now.ground.now) task.now.root.now task.now.start.now) L.lawful L.allowed }
-    requires leases { (lease : ℕ) → L.begins lease }
+    requires lease { L.begins crew.lease_ms }
     requires limit { L.limit ≡ crew.limit }
     requires opening { IsOpening (part_from (arc_value task.now.ground.now) task.now.root.now task.now.start.now) space }
     requires reached { L.reached (opened space crew.workers crew.limit) }
     ensures searched { IfOk result (λ left. IsSearched (part_from (arc_value task.now.ground.now) task.now.root.now task.now.start.now) (content_of left)) }
     ensures limit { IfOk result (λ left. IsWithin crew.limit left.commits) }
+    ensures reached { IfOk result (λ left. IsOpening (part_from (arc_value task.now.ground.now) task.now.root.now task.now.start.now) space × IsReached L.reached left) }
 {
     let count = usize::from(crew.workers);
     let room = Vec::with_capacity(alloc, count)?;
@@ -182,7 +187,7 @@ fn seats_for<L: Law, S>(
     shares: Vec<Share<L>>,
 ) -> Result<Vec<Mutex<Seat<L>>>, AllocError>
     requires start { length task.now.start.now ≡ (arc_value task.now.ground.now).size }
-    requires law { Allows (arc_value task.now.ground.now) L.allowed L.begins }
+    requires law { Allows (job_of (arc_value task.now.ground.now) crew.lease_ms) L.allowed L.begins }
     ensures { IfOk result (λ seats. vec_len seats ≡ vec_len shares) }
 {
     let mut seats = Vec::with_capacity(alloc, shares.len())?;

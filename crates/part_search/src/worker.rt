@@ -5,7 +5,7 @@ ghost use Rattle.std.specs.Arc.{arc_value};
 ghost use Rattle.subtree_search.specs.Best.{IsIncumbent};
 ghost use Rattle.qap_cost.specs.Instance.{Problem};
 ghost use Rattle.part_search.specs.Ground.{IsSplitter};
-ghost use Rattle.part_search.specs.Worker.{Allows, IsIdle, IsLeaving, IsStage, IsWorker, Made, steps_to_idle};
+ghost use Rattle.part_search.specs.Worker.{Allows, IsIdle, IsLeaving, IsStage, IsWorker, Made, job_of, steps_to_idle};
 ghost use Rattle.part_search.specs.declared.stage.Stage.{Stage};
 
 use crate::aid::Aid;
@@ -49,7 +49,7 @@ impl Tools {
 }
 
 /// A worker of a search on parts: it takes an open node, splits it and tries its children, and commits those that are left open with
-/// the best permutation that it knows. It is seen as the instance, and the number of steps after which it has no transaction.
+/// the best permutation that it knows. It is seen as its job, and the number of steps after which it has no transaction.
 #[derive(Drop)]
 pub struct Worker {
     alloc: Global,
@@ -67,11 +67,11 @@ pub struct Worker {
 impl Model for Worker {
     ghost use Rattle.std.specs.Arc.{arc_value};
     ghost use Rattle.part_search.specs.Ground.{IsSplitter};
-    ghost use Rattle.part_search.specs.Worker.{IsWorker, WorkerValue, steps_to_idle};
+    ghost use Rattle.part_search.specs.Worker.{IsWorker, WorkerValue, job_of, steps_to_idle};
 
     ghost Value = { WorkerValue };
 
-    ghost view = { λ w. record { instance = arc_value w.ground; to_idle = steps_to_idle w.stage } };
+    ghost view = { λ w. record { job = job_of (arc_value w.ground) w.tools.lease_ms; to_idle = steps_to_idle w.stage } };
 
     ghost invariant = { λ w. IsSplitter (arc_value w.ground) w.splitter × IsWorker (arc_value w.ground) w.incumbent w.stage };
 }
@@ -85,7 +85,7 @@ impl Worker {
         lease_ms: u64,
     ) -> Result<Worker, AllocError>
         requires { length start ≡ (arc_value ground).size }
-        ensures instance { IfOk result (λ worker. worker.instance ≡ arc_value ground) }
+        ensures job { IfOk result (λ worker. worker.job ≡ job_of (arc_value ground) lease_ms) }
         ensures idle { IfOk result IsIdle }
     {
         let tools = Tools {
@@ -119,7 +119,7 @@ impl Worker {
     /// If it took an open node, splits it and tries its children, outside the space; its next step commits what is
     /// left. At an error memory ran out, and the node is given up.
     pub fn try_node<S: Aid>(&mut self, aid: &S) -> Result<(), AllocError>
-        ensures instance { self.new.instance ≡ self.old.instance }
+        ensures job { self.new.job ≡ self.old.job }
         ensures given_up { OnErr result (IsLeaving self.new) }
     {
         let stage = replace(&mut self.stage, Stage::Idle);
@@ -144,9 +144,9 @@ impl Worker {
         room: &mut M,
         share: &mut Share<L>,
     ) -> Result<bool, AllocError>
-        requires { Allows self.old.instance L.allowed L.begins }
-        ensures made { Made M.did self.old.instance room.old room.new }
-        ensures instance { self.new.instance ≡ self.old.instance }
+        requires { Allows self.old.job L.allowed L.begins }
+        ensures made { Made M.did self.old.job.instance room.old room.new }
+        ensures job { self.new.job ≡ self.old.job }
         ensures ended { self.old.to_idle ≡ 1 → IsIdle self.new }
     {
         let stage = replace(&mut self.stage, Stage::Idle);
@@ -211,7 +211,7 @@ impl Worker {
 
     /// Gives up its node: if it has a transaction, the next step aborts it.
     pub(crate) fn give_up(&mut self)
-        ensures instance { self.new.instance ≡ self.old.instance }
+        ensures job { self.new.job ≡ self.old.job }
         ensures given_up { IsLeaving self.new }
     {
         let stage = replace(&mut self.stage, Stage::Idle);
@@ -258,7 +258,7 @@ fn turn<L: Law, M: Room<L>>(
     stage: Stage,
     incumbent: &mut Incumbent,
 ) -> Outcome
-    requires law { Allows ground.now L.allowed L.begins }
+    requires law { Allows (job_of ground.now tools.now.lease_ms) L.allowed L.begins }
     requires worker { IsWorker ground.now incumbent.old stage }
     ensures made { Made M.did ground.now room.old room.new }
     ensures worker { IsWorker ground.now incumbent.new result.stage }

@@ -9,7 +9,7 @@ loop-i-preserved g c =
     let made = c.in_ok-make.ensures {u = tt} in
     record {
       runs = Runs-step (arc_value c.args.task.now.ground.now) c.args.workers _ c.args.steps.now c.loop-i.i _ _ _ c.loop-i-test.true kept.runs (rw kept.count at made.moves);
-      instance = made.instance;
+      job = made.job;
       count = made.count ∙ kept.count;
     }
 

@@ -2,4 +2,4 @@ use Rattle.std.specs.Prelude.{◌≡◌}
 use Rattle.part_search.proofs.seat.finish.Given as goal
 
 abbrev pub invariant-loop : goal.invariant-loop
-invariant-loop g l = l.worker.instance ≡ l.fn.worker.instance
+invariant-loop g l = l.worker.job ≡ l.fn.worker.job
