@@ -17,6 +17,7 @@ const MOST_NUMBERS: usize = 16_000_000;
 #[derive(Drop)]
 pub(crate) struct Wanted {
     value: i128,
+    depth: usize,
     template: Template,
 }
 
@@ -31,6 +32,7 @@ impl Wanted {
         match Template::new(patterns) {
             Ok(template) => Ok(Wanted {
                 value: open_node.value,
+                depth: open_node.node.depth(),
                 template,
             }),
             Err(_) => Err(AllocError),
@@ -40,6 +42,11 @@ impl Wanted {
     /// Its value.
     pub(crate) fn value(&self) -> i128 {
         self.value
+    }
+
+    /// Its depth.
+    pub(crate) fn depth(&self) -> usize {
+        self.depth
     }
 
     /// The template.

@@ -150,7 +150,7 @@ where
     let room = Vec::with_capacity(alloc, count)?;
     let nodes = node_template(alloc)?;
     let cost = cost(task.ground.instance(), task.start);
-    let values = Values::new(alloc, LEAST_COST, cost)?;
+    let values = Values::new(alloc, task.root, LEAST_COST, cost)?;
     let (shared, shares) = Shared::<L>::within(alloc, blank, space, count, crew.limit)?;
     let seats = seats_for(alloc, task, crew, shares)?;
     let waiting = AtomicU64::new(0);
@@ -265,6 +265,7 @@ fn progress_at<R: Wait + time::Clock, L: Law, O>(place: &Workplace<'_, R, L, O>)
         tried: place.tried.load(Ordering::SeqCst),
         cost: values.cost(),
         least: values.least(),
+        settled: values.settled(),
     }
 }
 

@@ -19,10 +19,11 @@ use subtree_search::Incumbent;
 use tuple_match::Tuple;
 use tuple_space::{EntryId, Lease};
 
-/// What the trial of a node found: the node's value, and the nodes that are left open in its place.
+/// What the trial of a node found: the node's value and depth, and the nodes that are left open in its place.
 #[derive(Drop)]
 pub(crate) struct Trial {
     pub(crate) value: i128,
+    pub(crate) depth: usize,
     pub(crate) opened: Vec<Wanted>,
 }
 
@@ -53,6 +54,7 @@ pub(crate) fn try_taken<S: Aid>(
     let opened = wanted_of(alloc, &opens)?;
     Ok(Some(Trial {
         value: at.value,
+        depth: at.node.depth(),
         opened,
     }))
 }

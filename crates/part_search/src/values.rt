@@ -1,8 +1,12 @@
 //! The values of the nodes that a search has yet to decide, and the cost of its incumbent: advice, which no proof relies on.
 
 use crate::trying::Trial;
+use qap_cost::Partial;
 use std::alloc::{AllocError, Global};
 use std::collections::BTreeMap;
+
+/// Into how many parts the completions of the root are divided.
+const WHOLE: u64 = 1 << 62;
 
 /// How often each value occurs among the nodes that are open or being worked on, and the cost of the incumbent.
 ///
@@ -15,23 +19,38 @@ pub(crate) struct Values {
     cost: i128,
     /// Whether memory sufficed for each value.
     is_complete: bool,
+    /// The depth of the root.
+    top: usize,
+    /// How many parts of the root's completions a node has, for each depth from the root's on.
+    shares: Vec<u64>,
+    /// How many the nodes have that are open or being worked on.
+    left: u64,
 }
 
 impl Values {
     /// That of the root, and the cost of the permutation to start from.
-    pub(crate) fn new(alloc: Global, root: i128, cost: i128) -> Result<Values, AllocError> {
+    pub(crate) fn new(
+        alloc: Global,
+        root: &Partial,
+        value: i128,
+        cost: i128,
+    ) -> Result<Values, AllocError> {
         let mut counts = BTreeMap::new(alloc);
-        counts.insert(root, 1)?;
+        counts.insert(value, 1)?;
         Ok(Values {
             counts,
             cost,
             is_complete: true,
+            top: root.depth(),
+            shares: shares_below(alloc, root.size().saturating_sub(root.depth()))?,
+            left: WHOLE,
         })
     }
 
     /// Adds the values of the nodes that a trial left open, before the commit that opens them.
     pub(crate) fn announce(&mut self, trial: &Trial) {
         for wanted in &trial.opened {
+            self.left = self.left.saturating_add(self.share(wanted.depth()));
             if self.add(wanted.value()).is_err() {
                 self.is_complete = false;
             }
@@ -41,6 +60,7 @@ impl Values {
     /// After a commit that was accepted and left an incumbent of this cost, drops the value of the node that it replaced.
     pub(crate) fn accept(&mut self, trial: &Trial, cost: i128) {
         self.remove(trial.value);
+        self.left = self.left.saturating_sub(self.share(trial.depth));
         self.cost = self.cost.min(cost);
     }
 
@@ -48,6 +68,15 @@ impl Values {
     pub(crate) fn refuse(&mut self, trial: &Trial) {
         for wanted in &trial.opened {
             self.remove(wanted.value());
+            self.left = self.left.saturating_sub(self.share(wanted.depth()));
+        }
+    }
+
+    /// How many parts of the root's completions a node of this depth has.
+    fn share(&self, depth: usize) -> u64 {
+        match self.shares.get(depth.saturating_sub(self.top)) {
+            Some(share) => *share,
+            None => 0,
         }
     }
 
@@ -85,4 +114,20 @@ impl Values {
         let (value, _) = self.counts.first_key_value()?;
         Some(*value)
     }
+
+    /// How many percent of the root's completions none of these nodes has.
+    pub(crate) fn settled(&self) -> u64 {
+        WHOLE.saturating_sub(self.left) / (WHOLE / 100)
+    }
+}
+
+/// How many parts of its completions a node with this many free facilities has, how many a child, and so on.
+fn shares_below(alloc: Global, free: usize) -> Result<Vec<u64>, AllocError> {
+    let mut shares = Vec::with_capacity(alloc, free)?;
+    let mut share = WHOLE;
+    for k in 0..free {
+        shares.push(share)?;
+        share /= u64::try_from(free - k).unwrap_or(u64::MAX).max(1);
+    }
+    Ok(shares)
 }

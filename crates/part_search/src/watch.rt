@@ -12,6 +12,8 @@ pub struct Progress {
     /// The least value of the nodes that are open or being worked on, if it is known and there are any: no completion of the root
     /// costs less than the smaller of it and the incumbent's cost.
     pub least: Option<i128>,
+    /// How many percent of the root's completions no node has that is open or being worked on.
+    pub settled: u64,
 }
 
 /// May stop a search, and observes its progress.

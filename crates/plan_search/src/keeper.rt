@@ -7,6 +7,8 @@ pub struct Progress {
     pub cost: Option<i128>,
     /// What no permutation that the search is among costs less than, if that is known.
     pub bound: Option<i128>,
+    /// How many percent of these are settled, if that is known.
+    pub settled: Option<u64>,
     /// How many nodes were decided.
     pub decided: u64,
 }

@@ -192,6 +192,7 @@ impl<K: Keeper> Watch for Watcher<'_, '_, K> {
             self.within.see(&Progress {
                 cost: None,
                 bound: None,
+                settled: None,
                 decided: nodes,
             });
         }

@@ -387,6 +387,7 @@ impl<T: Wait + time::Clock, K: Keeper> Watch for Watcher<'_, '_, '_, T, K> {
             self.within.see(&Progress {
                 cost: Some(cost),
                 bound: progress.least.map(|least| least.min(cost)),
+                settled: Some(progress.settled),
                 decided: progress.tried,
             });
         }

@@ -16,6 +16,10 @@ const PAUSE_MS: u64 = 10_000;
 /// After how many milliseconds it is looked again whether the search is to stop.
 const LOOK_MS: u64 = 100;
 
+/// The cells of a bar of which everything is settled, and of one of which nothing is.
+const FULL: &[u8] = b"==========";
+const EMPTY: &[u8] = b"----------";
+
 /// More decimals than a cost has digits.
 const MOST_DECIMALS: usize = 40;
 
@@ -155,19 +159,44 @@ impl<R: Eprint + AllocGlobal + Files, T: time::Clock> Keeper for Teller<'_, R, T
     }
 }
 
-/// How far a search has come after this many milliseconds: the seconds, the cost of the incumbent with this many decimals,
-/// how far that may be above the least, how many nodes are decided, and how many were in a second.
-pub fn progress_line(
+/// How far a search has come after this many milliseconds: the seconds, how much of it is settled, the cost of the
+/// incumbent with this many decimals, how far that may be above the least, and how many nodes were decided.
+fn progress_line(
     alloc: Global,
     milliseconds: u64,
     progress: &Progress,
     decimals: usize,
 ) -> Result<String, AllocError> {
-    let decided = progress.decided;
     let seconds = milliseconds / 1000;
-    let rate = u128::from(decided) * 1000 / u128::from(milliseconds.max(1));
+    let bar = bar_phrase(alloc, progress.settled)?;
     let cost = cost_phrase(alloc, progress, decimals)?;
-    format!(in alloc; "{seconds} s{cost}, {decided} nodes, {rate}/s")
+    let nodes = nodes_phrase(alloc, milliseconds, progress.decided)?;
+    format!(in alloc; "{seconds} s{bar}{cost}{nodes}")
+}
+
+/// How much is settled, as a bar and in percent, if it is known.
+fn bar_phrase(alloc: Global, settled: Option<u64>) -> Result<String, AllocError> {
+    let Some(percent) = settled else {
+        return Ok(String::new(alloc));
+    };
+    let tenths = usize::try_from(percent / 10).unwrap_or(FULL.len());
+    let full = cells(FULL, tenths);
+    let empty = cells(EMPTY, EMPTY.len().saturating_sub(tenths));
+    format!(in alloc; " [{full}{empty}] {percent}%")
+}
+
+/// So many cells of a bar, if it has them.
+fn cells(bar: &[u8], count: usize) -> &str {
+    std::str::from_utf8(bar.get(..count).unwrap_or(bar)).unwrap_or("")
+}
+
+/// How many nodes were decided, and how many in a second, if there are any.
+fn nodes_phrase(alloc: Global, milliseconds: u64, decided: u64) -> Result<String, AllocError> {
+    if decided == 0 {
+        return Ok(String::new(alloc));
+    }
+    let rate = u128::from(decided) * 1000 / u128::from(milliseconds.max(1));
+    format!(in alloc; ", {decided} nodes, {rate}/s")
 }
 
 /// The cost of the incumbent, if it is to be reported, and how far it may be above the least, if a bound is known.
