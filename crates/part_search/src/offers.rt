@@ -33,9 +33,10 @@ pub(crate) fn take_up(instance: &Instance, root: &Partial, incumbent: &mut Incum
     if offered.len() != instance.size() || offered.len() != root.size() {
         return;
     }
-    if completes(root, &offered) {
-        keep_better(incumbent, Incumbent::new(instance, offered));
+    if !completes(root, &offered) {
+        return;
     }
+    keep_better(incumbent, Incumbent::new(instance, offered));
 }
 
 /// Whether a permutation of the root's size puts each facility that the root places at its location.
