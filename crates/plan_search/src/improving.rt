@@ -77,6 +77,9 @@ fn improved_in_turn<H: Hook>(
 {
     let mut best = start;
     for round in 0..options.searches_in_turn(node) {
+        if !hook.goes_on(cost(instance, &best)) {
+            break;
+        }
         let plan = plan_in_turn(node, options.seed, round);
         best = improved_keeping(alloc, instance, node, &best, &plan, hook)?.permutation;
     }

@@ -37,6 +37,9 @@ const LEAST_UNPROVED: u64 = 40;
 /// For how many milliseconds tabu searches continue for each square of a number of facilities above the largest easy one.
 const MS_PER_SQUARE: u64 = 10;
 
+/// About how many entries of the pair duals of a root are found in a millisecond.
+const ENTRIES_PER_MS: u64 = 500;
+
 /// For how many milliseconds a worker tries the children of the node that it took.
 const TURN_MS: u64 = 1000;
 
@@ -149,6 +152,18 @@ impl Options {
         let over = free.saturating_sub(LARGEST_EASY);
         let square = over.saturating_mul(over);
         Some((limit / 10).min(square.saturating_mul(MS_PER_SQUARE)))
+    }
+
+    /// Whether pair duals of a root are likely to be found within the time limit, if that begins this many milliseconds after the
+    /// run: it takes time with the fourth power of the number of free facilities, and is not interrupted.
+    pub fn has_time_for_duals(&self, root: &Partial, now: u64) -> bool {
+        let Some(limit) = self.milliseconds else {
+            return true;
+        };
+        let free = free_in(root);
+        let square = free.saturating_mul(free);
+        let entries = square.saturating_mul(square);
+        now.saturating_add(entries / ENTRIES_PER_MS) <= limit
     }
 
     /// How many bytes of memory the program may have while it searches.

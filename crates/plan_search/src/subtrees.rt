@@ -147,7 +147,8 @@ where
         return Ok(found);
     }
     let scale = scale_for(cost(instance, start));
-    let ground = ground_for(alloc, instance, root, options, scale)?;
+    let now = watcher.within.now();
+    let ground = ground_for(alloc, instance, root, options, scale, now)?;
     let task = Task {
         ground: &ground,
         root,
@@ -281,19 +282,22 @@ pub(crate) fn has_few_free(root: &Partial) -> bool {
 }
 
 /// What the workers share of the instance: for bounds under pair duals of this scale, or for those of Gilmore and Lawler if a
-/// number is out of range, many facilities are free, or a number of nodes is the limit.
+/// number is out of range, many facilities are free, a number of nodes is the limit, or the time limit is too close this many
+/// milliseconds after the beginning of the run.
 fn ground_for(
     alloc: Global,
     instance: &Instance,
     root: &Partial,
     options: &Options,
     scale: u32,
+    now: u64,
 ) -> Result<Arc<Ground>, AllocError>
     requires { root.now.size ≡ instance.now.size }
     ensures { IfOk result (λ h. arc_value h ≡ instance.now) }
 {
     if has_few_free(root)
         && options.nodes.is_none()
+        && options.has_time_for_duals(root, now)
         && let Some(ground) = Ground::new(alloc, instance, root, scale, &Effort::root())?
     {
         return Ok(Arc::new(alloc, ground)?);
