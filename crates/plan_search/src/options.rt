@@ -65,8 +65,8 @@ pub struct Options {
 }
 
 impl Options {
-    /// The workers of a search below a root, and its limit. Under a time limit they take the open node with the least value first,
-    /// so that the bound rises.
+    /// The workers of a search below a root, and its limit. Under a time limit they take the open node with the least
+    /// value first, so that the bound rises.
     pub fn crew(&self, root: &Partial) -> Crew
         requires { AreLimited self.now }
         ensures some { 0 < result.workers }
@@ -86,8 +86,8 @@ impl Options {
         }
     }
 
-    /// How many threads make tabu searches beside the other workers: under a time limit one of several, and from 40 free facilities
-    /// on all but one.
+    /// How many threads make tabu searches beside the other workers: under a time limit one of several, and from 40
+    /// free facilities on all but one.
     pub fn tabu_threads(&self, root: &Partial) -> u16
         requires { AreLimited self.now }
         ensures { result < self.now.workers }
@@ -101,7 +101,8 @@ impl Options {
         }
     }
 
-    /// How many milliseconds the first turn of tabu searches takes where a single worker is under a time limit: a tenth of that.
+    /// How many milliseconds the first turn of tabu searches takes where a single worker is under a time limit: a tenth
+    /// of that.
     pub fn first_turn_ms(&self, root: &Partial) -> Option<u64> {
         if self.workers < 2 && self.has_tabu_beside(root) {
             Some(self.milliseconds? / 10)
@@ -110,8 +111,8 @@ impl Options {
         }
     }
 
-    /// Whether tabu searches go on beside a search: under a time limit, unless a number of iterations is given, the proof is to be
-    /// assembled, or few facilities are free.
+    /// Whether tabu searches go on beside a search: under a time limit, unless a number of iterations is given, the
+    /// proof is to be assembled, or few facilities are free.
     fn has_tabu_beside(&self, root: &Partial) -> bool {
         self.milliseconds.is_some()
             && self.improve.is_none()
@@ -137,9 +138,10 @@ impl Options {
         }
     }
 
-    /// Until how many milliseconds after the beginning of the run tabu searches continue side by side after these: where the
-    /// proof is to be assembled and no number of iterations is given, for a part of the time limit that grows with the number of
-    /// facilities that the root leaves free. From 37 on, where a proof is rarely in reach, that is three quarters of it.
+    /// Until how many milliseconds after the beginning of the run tabu searches continue side by side after these:
+    /// where the proof is to be assembled and no number of iterations is given, for a part of the time limit that grows
+    /// with the number of facilities that the root leaves free. From 37 on, where a proof is rarely in reach, that is
+    /// three quarters of it.
     pub fn improving_until(&self, root: &Partial) -> Option<u64> {
         let limit = self.milliseconds?;
         let free = free_in(root);
@@ -154,8 +156,9 @@ impl Options {
         Some((limit / 10).min(square.saturating_mul(MS_PER_SQUARE)))
     }
 
-    /// Whether pair duals of a root are likely to be found within the time limit, if that begins this many milliseconds after the
-    /// run: it takes time with the fourth power of the number of free facilities, and is not interrupted.
+    /// Whether pair duals of a root will probably be found within the time limit, by a search for them that begins this
+    /// many milliseconds after the run. It takes time with the fourth power of the number of free facilities, and is not
+    /// interrupted.
     pub fn has_time_for_duals(&self, root: &Partial, now: u64) -> bool {
         let Some(limit) = self.milliseconds else {
             return true;
