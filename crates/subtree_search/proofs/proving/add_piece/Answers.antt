@@ -1,6 +1,6 @@
-use Rattle.std.proofs.Common.{◌≡◌, ℤ, get_or, of_z, subst, sym, to_z, arith}
-use Rattle.std.proofs.lemmas.Int.{ints}
+use Rattle.std.proofs.Common.{◌≡◌, ◌∙◌, ℤ, get_or, of_z, rules, subst, sym, to_z}
 use Rattle.std.specs.Int.{w128}
+use Rattle.std.specs.Prelude.{◌≤ℤ◌}
 use Rattle.qap_cost.specs.Range.{IsLimited}
 use Rattle.subtree_search.specs.Piece.{IsPiece}
 use Rattle.subtree_search.specs.Recorded.{HasKid}
@@ -28,4 +28,16 @@ returns-clause-added g c =
     let begun = IsBegun-left I D R S line k c.row-h.result c.column-g.result ends old mid mid c.row-h.ensures c.column-g.ensures c.in_ok-descend.ensures.child c.mark.ensures (λ t h. h) in
     let at = at_child y x line k c.row-h.result c.column-g.result c.in_ok-descend.ensures.path c.row-h.ensures c.column-g.ensures in
     let kid = HasKid-proof I D s y x R line k p.bound ends old mid new c.requires.node c.requires.line c.requires.k_in at begun (HasProof-piece I p x c.tree.result.now mid new piece (c.in-Some.ensures.node c.index-part-i.result) c.tree.ensures c.in_ok-subtree.ensures) in
-    subst (λ (z : ℤ). HasKid I D y R line k z ends old new) (sym c.bound.ensures) kid
+    let read : c.bound.result ≡ to_z w128 (of_z w128 c.bound.result) = search rules in
+    subst (λ (z : ℤ). HasKid I D y R line k z ends old new) (sym c.bound.ensures ∙ read) kid
+
+pub returns-clause-limited : goal.returns-clause-limited
+returns-clause-limited g c =
+    let read : c.bound.result ≡ to_z w128 (of_z w128 c.bound.result) = search rules in
+    let piece : IsPiece c.args.part.now.task.now.ground.now.instance.now (get_or c.args.part.now.pieces.now c.in-Some.i c.index-part-i.result) = c.requires.pieces c.in-Some.i c.index-part-i.result c.in-Some.ensures.within in
+    subst IsLimited (sym c.bound.ensures ∙ read) piece.limited
+
+pub returns-clause-whole : goal.returns-clause-whole
+returns-clause-whole g c = λ d all.
+    let read : c.bound.result ≡ to_z w128 (of_z w128 c.bound.result) = search rules in
+    subst (λ (z : ℤ). d ≤ℤ z) (sym c.bound.ensures ∙ read) (all c.in-Some.i c.index-part-i.result c.in-Some.ensures.within)
