@@ -1,4 +1,4 @@
-use Rattle.std.proofs.Common.{◌≡◌, Bool, List, ℤ, ℕ, of_z, rules, subst, to_z, arith}
+use Rattle.std.proofs.Common.{◌≡◌, List, ℤ, ℕ, of_z, rules, subst, to_z, arith}
 use Rattle.std.specs.Int.{w128}
 use Rattle.std.specs.Prelude.{codes, ◌≤ℤ◌}
 use Rattle.std.proofs.lemmas.Int.{ints}
@@ -55,4 +55,4 @@ returns-clause-bound g c =
     record { limited = omega (arith, ints, read, least, bounded, above); at_most = omega (arith, ints, read, least, bounded, value) }
 
 pub returns-clause-stopped : goal.returns-clause-stopped
-returns-clause-stopped g c = subst (λ (b : Bool). g.S.Stop.says c.args.task.now.stop.now b) c.if-not-is_requested.false c.is_requested.ensures
+returns-clause-stopped g c = c.if-not-is_requested.ensures
