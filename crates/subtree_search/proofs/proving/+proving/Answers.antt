@@ -185,12 +185,12 @@ prove_children-loop-k-preserved g t c =
     let k = c.loop-k.k in
     let b = to_z w128 c.loop-k.bound-bits in
     let shown = c.in_ok-shown.shown in
-    let d = c.lesser-bound-2.result in
+    let d = c.lesser-bound-in-loop-k.result in
     let proved = c.in_ok-shown.ensures in
     let cost = c.prove_child.new.incumbent.cost in
     let shown_read : to_z w128 (of_z w128 shown) ≡ shown = search rules in
     let read : d ≡ to_z w128 (of_z w128 d) = search rules in
-    let least = c.lesser-bound-2.ensures in
+    let least = c.lesser-bound-in-loop-k.ensures in
     let second : d ≤ℤ shown = subst (λ (z : ℤ). d ≤ℤ z) shown_read least.second in
     let greatest : (e : ℤ) → e ≤ℤ b → e ≤ℤ shown → e ≤ℤ d = (λ e one other. least.greatest e one (subst (λ (z : ℤ). e ≤ℤ z) (sym shown_read) other)) in
     let below : k < count_of R = omega (arith, c.loop-k-test.true, c.free-k-end.ensures.value) in
@@ -275,8 +275,8 @@ pub prove_child-leave_child-requires-clause-node : goal.prove_child-leave_child-
 prove_child-leave_child-requires-clause-node g t c =
     subst (λ (y : Placement). IsNode c.args.part.now.task.now.ground.now.instance.now c.args.part.now.task.now.ground.now.duals.now c.args.part.now.task.now.ground.now.step y c.args.split.now.level.now.form) (sym c.in_ok-tried.ensures.path) c.requires.node
 
-pub prove_child-returns-in-Some-2-clause-recorded : goal.prove_child-returns-in-Some-2-clause-recorded
-prove_child-returns-in-Some-2-clause-recorded g t c =
+pub prove_child-returns-in-Some-left-clause-recorded : goal.prove_child-returns-in-Some-left-clause-recorded
+prove_child-returns-in-Some-left-clause-recorded g t c =
     let I = c.args.part.now.task.now.ground.now.instance.now in
     let D = c.args.part.now.task.now.ground.now.duals.now in
     let s = c.args.part.now.task.now.ground.now.step in
@@ -288,25 +288,25 @@ prove_child-returns-in-Some-2-clause-recorded g t c =
     let old = g.W.Record.holds c.args.proof.now in
     let mid = g.W.Record.holds c.try_child.new.proof in
     let new = g.W.Record.holds c.leave_child.new.proof in
-    let b = c.in-Some-2.bound in
+    let b = c.in-Some-left.bound in
     let read : b ≡ to_z w128 (of_z w128 b) = search rules in
     let begun = begun_by I D y R line k c.try_child.new.incumbent.cost ends old mid c.in_ok-tried.tried c.in-Some.child c.in-Some.is c.in_ok-tried.ensures.recorded in
-    let found = some_of (λ (z : ℤ). IsGrown I D c.try_child.new.path R line k z mid new) c.in_ok-left.left b c.in-Some-2.is c.in_ok-left.ensures.recorded in
+    let found = some_of (λ (z : ℤ). IsGrown I D c.try_child.new.path R line k z mid new) c.in_ok-left.left b c.in-Some-left.is c.in_ok-left.ensures.recorded in
     let grown = subst (λ (x : Placement). IsGrown I D x R line k b mid new) c.in_ok-tried.ensures.path found in
     subst (λ (z : ℤ). HasKid I D y R line k z ends old new) read (HasKid-grown I D s y R line k b ends old mid new c.requires.node c.requires.line c.requires.k_in begun grown)
 
-pub prove_child-returns-in-Some-2-clause-bound : goal.prove_child-returns-in-Some-2-clause-bound
-prove_child-returns-in-Some-2-clause-bound g t c =
-    let b = c.in-Some-2.bound in
+pub prove_child-returns-in-Some-left-clause-bound : goal.prove_child-returns-in-Some-left-clause-bound
+prove_child-returns-in-Some-left-clause-bound g t c =
+    let b = c.in-Some-left.bound in
     let read : b ≡ to_z w128 (of_z w128 b) = search rules in
     let cost = c.try_child.new.incumbent.cost in
-    subst (IsBoundFor cost) read (some_of (IsBoundFor cost) c.in_ok-left.left b c.in-Some-2.is c.in_ok-left.ensures.bound)
+    subst (IsBoundFor cost) read (some_of (IsBoundFor cost) c.in_ok-left.left b c.in-Some-left.is c.in_ok-left.ensures.bound)
 
-pub prove_child-returns-in-Some-2-clause-stopped : goal.prove_child-returns-in-Some-2-clause-stopped
-prove_child-returns-in-Some-2-clause-stopped g t c = λ less. some_of (λ (z : ℤ). g.S.Stop.says c.args.part.now.task.now.stop.now true) c.in_ok-left.left c.in-Some-2.bound c.in-Some-2.is c.in_ok-left.ensures.stopped
+pub prove_child-returns-in-Some-left-clause-stopped : goal.prove_child-returns-in-Some-left-clause-stopped
+prove_child-returns-in-Some-left-clause-stopped g t c = λ less. some_of (λ (z : ℤ). g.S.Stop.says c.args.part.now.task.now.stop.now true) c.in_ok-left.left c.in-Some-left.bound c.in-Some-left.is c.in_ok-left.ensures.stopped
 
-pub prove_child-returns-in-Some-2-clause-path : goal.prove_child-returns-in-Some-2-clause-path
-prove_child-returns-in-Some-2-clause-path g t c = c.in_ok-left.ensures.path ∙ c.in_ok-tried.ensures.path
+pub prove_child-returns-in-Some-left-clause-path : goal.prove_child-returns-in-Some-left-clause-path
+prove_child-returns-in-Some-left-clause-path g t c = c.in_ok-left.ensures.path ∙ c.in_ok-tried.ensures.path
 
 -- a proof under pair duals of its own
 pub prove_child-returns-clause-recorded : goal.prove_child-returns-clause-recorded
@@ -326,7 +326,7 @@ prove_child-returns-clause-recorded g t c =
     let opened = opened_by I D.scale y (child_on y line c.args.k) cost c.in_ok-tried.tried c.in-Some.child c.in-Some.is c.in_ok-tried.ensures.child in
     let begun = begun_by I D y R line c.args.k cost ends old mid c.in_ok-tried.tried c.in-Some.child c.in-Some.is c.in_ok-tried.ensures.recorded in
     let is = c.in_ok-node.ensures.value ∙ sym (ap (λ (z : Placement). placing z c.in-Some.child.facility c.in-Some.child.location) c.requires.at) ∙ opened.is in
-    let proved = subst (λ p. HasProof I c.in_ok-node.node b (g.W.Record.holds p) new) (c.in_ok-left.ensures.none c.in_default-2.is) c.in_ok-bound.ensures.recorded in
+    let proved = subst (λ p. HasProof I c.in_ok-node.node b (g.W.Record.holds p) new) (c.in_ok-left.ensures.none c.in_default-left.is) c.in_ok-bound.ensures.recorded in
     subst (λ (z : ℤ). HasKid I D y R line c.args.k z ends old new) read
     (HasKid-proof I D c.args.part.now.task.now.ground.now.step y c.in_ok-node.node R line c.args.k b ends old mid new c.requires.node c.requires.line c.requires.k_in is begun proved)
 
