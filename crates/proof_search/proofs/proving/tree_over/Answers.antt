@@ -1,0 +1,10 @@
+use Rattle.std.proofs.Common.{inl, inr, subst, sym}
+use Rattle.subtree_search.specs.Piece.{AreWhole}
+use Rattle.proof_search.proofs.proving.tree_over.Goals as goal
+
+pub returns-clause-stopped : goal.returns-clause-stopped
+returns-clause-stopped g c = λ less.
+    elim c.in_ok-pieces.ensures.whole [
+      | inl whole ↦ c.in_ok-shown.ensures.stopped (subst (AreWhole c.pieces_below.new.incumbent.cost) (sym c.deref.ensures.value) whole) less
+      | inr says ↦ says
+    ]
