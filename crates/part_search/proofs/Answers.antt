@@ -39,9 +39,9 @@ pub read_from : (n : ℕ) (I : Problem) (content tuples : Content) (s : Survey) 
 read_from n I content tuples s b g same surveyed found least =
     let at : Contains tuples (best_tuple b) = subst (λ (o : Option Best). IfSome o (λ x. Contains tuples (best_tuple x))) found surveyed.best in
     let value : (o : OpenNode) → Contains content (node_tuple o) → IsAtMost s.least o.value =
-        λ o there.
-          let t = subst (λ (c : Content). Contains c (node_tuple o)) (sym same) there in
-          surveyed.values t.0 (node_tuple o) t.1 o t.2 in
+    λ o there.
+    let t = subst (λ (c : Content). Contains c (node_tuple o)) (sym same) there in
+    surveyed.values t.0 (node_tuple o) t.1 o t.2 in
     record {
       best = subst (λ (c : Content). Contains c (best_tuple b)) same at;
       below = λ o there. at_most s.least g o.value least (value o there);

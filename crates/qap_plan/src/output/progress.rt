@@ -18,6 +18,7 @@ const LOOK_MS: u64 = 100;
 
 /// The cells of a bar of which everything is settled, and of one of which nothing is.
 const FULL: &[u8] = b"==========";
+
 const EMPTY: &[u8] = b"----------";
 
 /// More decimals than a cost has digits.
