@@ -2,13 +2,13 @@
 
 ghost use Rattle.std.specs.Prelude.{◌≡◌, ◌≤ℤ◌, ◌⊎◌, [], ℤ, IfErr, IfOk, IfSome, OnOk, true};
 ghost use Rattle.qap_cost.specs.Instance.{Problem};
-ghost use Rattle.shared_space.specs.Law.{MayCommit};
+ghost use Rattle.shared_space.specs.Law.{Content, MayCommit};
 ghost use Rattle.shared_space.specs.Refusals.{IsAbortError};
 ghost use Rattle.space_txn.specs.Machine.{find_answer, found};
 ghost use Rattle.subtree_search.specs.Best.{Best, IsIncumbent};
 ghost use Rattle.part_search.specs.Replacement.{MayReplace};
 ghost use Rattle.part_search.specs.Tuples.{best_template, node_template};
-ghost use Rattle.part_search.specs.Worker.{Allows, HasBest, HasBoth, HasTried, IsFoundBest, IsFoundOpen, IsStage, Made};
+ghost use Rattle.part_search.specs.Worker.{HasBest, HasBoth, HasTried, IsFoundBest, IsFoundOpen, IsStage, Made};
 ghost use Rattle.part_search.specs.declared.stage.Stage.{Stage};
 
 use crate::ground::Ground;
@@ -206,7 +206,7 @@ pub(crate) fn commit<L: Law, M: Room<L>>(
     instance: &Instance,
     txn: Txn,
 ) -> Outcome
-    requires law { Allows instance.now L.allowed L.begins }
+    requires law { (gone kept added : Content) → MayReplace instance.now gone kept added → L.allowed gone kept added }
     requires may { MayCommit (MayReplace instance.now) txn }
     ensures made { Made M.did instance.now room.old room.new }
     ensures stage { (c : ℤ) → IsStage instance.now c result.stage }
