@@ -13,7 +13,7 @@ use crate::keeper::{Keeper, Progress};
 use crate::memory_limit::WithinMemory;
 use crate::options::{Options, free_in};
 use crate::planning::Planned;
-use crate::tabu::Tabu;
+use crate::tabu::{Beside, Tabu};
 use dual_ascent::Effort;
 use gilmore_lawler::RankedInstance;
 use node_split::NodeSplit;
@@ -74,24 +74,26 @@ where
         tabu: &tabu,
         looks: Cell::new(0),
     };
-    let found = searched_beside(system, alloc, instance, root, start, options, &watcher)?;
+    let beside = (&watcher, &tabu);
+    let found = searched_beside(system, alloc, instance, root, start, options, beside)?;
     let best = tabu.best()?;
     Ok(with_better(instance, root, found, best))
 }
 
-/// What a search by workers yields, beside which tabu searches go on in threads of their own until it ends.
-fn searched_beside<T, K>(
+/// What a search by workers yields, beside which other searches go on in threads of their own until it ends.
+fn searched_beside<T, S, O>(
     system: &T,
     alloc: Global,
     instance: &Instance,
     root: &Partial,
     start: &Perm,
     options: &Options,
-    watcher: &Watcher<'_, '_, '_, T, K>,
+    beside: (&S, &O),
 ) -> Result<Planned, AllocError>
 where
     T: Threads + Wait + time::Clock + Sync,
-    K: Keeper,
+    S: TimedWatch,
+    O: Beside + Sync,
     requires limited { AreLimited options.now }
     requires start { Permutes instance.now start.now }
     requires same_size { root.now.size ≡ instance.now.size }
@@ -99,7 +101,7 @@ where
     ensures proof { IfOk result (λ x. x.proof ≡ None) }
     ensures pair_proof { IfOk result (λ x. x.pair_proof ≡ None) }
 {
-    let tabu = watcher.tabu;
+    let (watch, others) = beside;
     thread::scope(
         thread::scope_env(),
         system,
@@ -113,28 +115,30 @@ where
         {
             for number in 0..options.tabu_threads(root) {
                 // A search whose thread cannot be started is left out.
-                let _ = scope.spawn(move || tabu.search(number));
+                let _ = scope.spawn(move || others.search(number));
             }
-            let found = searched_by_workers(system, alloc, instance, root, start, options, watcher);
-            tabu.halt();
+            let beside = (watch, others);
+            let found = searched_by_workers(system, alloc, instance, root, start, options, beside);
+            others.halt();
             found
         },
     )
 }
 
-/// What a search by workers yields.
-fn searched_by_workers<T, K>(
+/// What a search by workers yields, who take up what is offered.
+fn searched_by_workers<T, S, O>(
     system: &T,
     alloc: Global,
     instance: &Instance,
     root: &Partial,
     start: &Perm,
     options: &Options,
-    watcher: &Watcher<'_, '_, '_, T, K>,
+    beside: (&S, &O),
 ) -> Result<Planned, AllocError>
 where
     T: Threads + Wait + time::Clock + Sync,
-    K: Keeper,
+    S: TimedWatch,
+    O: Offers + Sync,
     requires limited { AreLimited options.now }
     requires start { Permutes instance.now start.now }
     requires same_size { root.now.size ≡ instance.now.size }
@@ -142,21 +146,20 @@ where
     ensures proof { IfOk result (λ x. x.proof ≡ None) }
     ensures pair_proof { IfOk result (λ x. x.pair_proof ≡ None) }
 {
-    let easy = searched_briefly(system, alloc, instance, root, start, options, watcher)?;
+    let (watch, offers) = beside;
+    let easy = searched_briefly(system, alloc, instance, root, start, options, watch)?;
     if let Some(found) = easy {
         return Ok(found);
     }
     let scale = scale_for(cost(instance, start));
-    let now = watcher.within.now();
-    let ground = ground_for(alloc, instance, root, options, scale, now)?;
+    let ground = ground_for(alloc, instance, root, options, scale, watch.now())?;
     let task = Task {
         ground: &ground,
         root,
         start,
-        stop: watcher,
+        stop: watch,
     };
-    let crew = options.crew(root);
-    let found = searched_on(system, alloc, instance, &task, crew, watcher.tabu)?;
+    let found = searched_on(system, alloc, instance, &task, options.crew(root), offers)?;
     if found.open_nodes == 0 {
         return Ok(found);
     }
@@ -208,18 +211,18 @@ fn with_permutation(instance: &Instance, root: &Partial, found: Planned, best: P
 
 /// What a search by the bounds of Gilmore and Lawler yields if it ends within a few nodes; `None` if it does not, or if
 /// these are the bounds of the whole search.
-fn searched_briefly<T, K>(
+fn searched_briefly<T, S>(
     system: &T,
     alloc: Global,
     instance: &Instance,
     root: &Partial,
     start: &Perm,
     options: &Options,
-    watcher: &Watcher<'_, '_, '_, T, K>,
+    watch: &S,
 ) -> Result<Option<Planned>, AllocError>
 where
     T: Threads + Wait + time::Clock + Sync,
-    K: Keeper,
+    S: Watch,
     requires limited { AreLimited options.now }
     requires start { Permutes instance.now start.now }
     requires same_size { root.now.size ≡ instance.now.size }
@@ -235,7 +238,7 @@ where
         ground: &ground,
         root,
         start,
-        stop: watcher,
+        stop: watch,
     };
     let crew = Crew {
         limit: Some(EASY_NODES),
@@ -360,6 +363,12 @@ fn with_bound(found: Planned, bound: i128) -> Planned
     Planned { bound, ..found }
 }
 
+/// A watch that also knows the time.
+trait TimedWatch: Watch {
+    /// How many milliseconds ago the run began.
+    fn now(&self) -> u64;
+}
+
 /// Stops a search and the tabu searches beside it if a keeper requests it, and reports their progress to that keeper.
 #[derive(Drop)]
 struct Watcher<'a, 'k, 't, T, K: Keeper> {
@@ -395,5 +404,11 @@ impl<T: Wait + time::Clock, K: Keeper> Watch for Watcher<'_, '_, '_, T, K> {
                 decided: progress.tried,
             });
         }
+    }
+}
+
+impl<T: Wait + time::Clock, K: Keeper> TimedWatch for Watcher<'_, '_, '_, T, K> {
+    fn now(&self) -> u64 {
+        self.within.now()
     }
 }

@@ -40,6 +40,15 @@ pub(crate) struct Tabu<'a, T> {
     ended_ms: AtomicU64,
 }
 
+/// Searches that go on beside another one, and offer it what they find.
+pub(crate) trait Beside: Offers {
+    /// One of them, until it is halted.
+    fn search(&self, number: u16);
+
+    /// Lets all of them end.
+    fn halt(&self);
+}
+
 impl<'a, T: Wait + time::Clock> Tabu<'a, T> {
     /// Searches that have not begun, and draw their random numbers from this seed.
     pub(crate) fn new(
@@ -73,11 +82,6 @@ impl<'a, T: Wait + time::Clock> Tabu<'a, T> {
         Tabu { first_ms, ..self }
     }
 
-    /// Lets all searches end.
-    pub(crate) fn halt(&self) {
-        self.halt.store(true, Ordering::SeqCst);
-    }
-
     /// What the best permutation so far costs.
     pub(crate) fn cost(&self) -> i128 {
         self.best.lock(self.system).cost()
@@ -86,23 +90,6 @@ impl<'a, T: Wait + time::Clock> Tabu<'a, T> {
     /// The best permutation so far.
     pub(crate) fn best(&self) -> Result<Perm, AllocError> {
         self.best.lock(self.system).permutation().copy()
-    }
-
-    /// An iterated tabu search (Misevicius 2004), until it is halted or memory runs out: after some iterations it
-    /// begins again from exchanges at random.
-    pub(crate) fn search(&self, number: u16) {
-        let Ok(mut here) = self.start.copy() else {
-            return;
-        };
-        for _ in 0..u32::MAX {
-            if self.is_over(None) {
-                return;
-            }
-            match self.next_from(&here, number) {
-                Ok(next) => here = next,
-                Err(AllocError) => return,
-            }
-        }
     }
 
     /// Where a search begins again after one from here: one of an even number at the best permutation of all, another
@@ -201,6 +188,29 @@ impl<'a, T: Wait + time::Clock> Tabu<'a, T> {
         } else {
             Some(now.saturating_add(passed))
         }
+    }
+}
+
+impl<T: Wait + time::Clock> Beside for Tabu<'_, T> {
+    /// An iterated tabu search (Misevicius 2004), until it is halted or memory runs out: after some iterations it
+    /// begins again from exchanges at random.
+    fn search(&self, number: u16) {
+        let Ok(mut here) = self.start.copy() else {
+            return;
+        };
+        for _ in 0..u32::MAX {
+            if self.is_over(None) {
+                return;
+            }
+            match self.next_from(&here, number) {
+                Ok(next) => here = next,
+                Err(AllocError) => return,
+            }
+        }
+    }
+
+    fn halt(&self) {
+        self.halt.store(true, Ordering::SeqCst);
     }
 }
 
