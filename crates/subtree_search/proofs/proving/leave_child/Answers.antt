@@ -53,3 +53,6 @@ returns-clause-bound g c =
     let least = c.lesser-bound.ensures.second in
     let above = c.if-bound-lt-LEAST_BOUND.false in
     record { limited = omega (arith, ints, read, least, bounded, above); at_most = omega (arith, ints, read, least, bounded, value) }
+
+pub returns-clause-stopped : goal.returns-clause-stopped
+returns-clause-stopped g c = c.if-not-is_requested.ensures
