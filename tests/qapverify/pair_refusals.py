@@ -30,8 +30,8 @@ ALTERED = [
     (15, "s 2 .+ 4 0 0", "13 BadLine at 15"),
     (15, "s 2 .x+ 4 0 0", "13 BadLine at 15"),
     (15, "s 2 .++ 4 0", "19 DualCount at 15"),
-    # In room 2, 4 + 10 + 6 = 20 isn't above 22.
-    (15, "s 2 ..+ 4 0 0", "28 CutTooLow at 15"),
+    # A line is left over, which a proof has not, whatever its bounds are.
+    (15, "s 2 ..+ 4 0 0", "13 BadLine at 17"),
     (16, "x 10 6", "22 BoundTooLow at 16"),
     (16, "c", "13 BadLine at 16"),
     (16, "x 10", "19 DualCount at 16"),
@@ -77,6 +77,10 @@ def cases():
         yield f"case: right {number}: {answer}"
         yield f"run: sed '{line}s/.*/{text}/' corridor.proof2 > a.proof; qapverify corridor.dat a.proof"
         yield f"stdout: {answer}" + ("" if answer.startswith("optimal") else "\nstatus: 5")
+    # In room 2, 4 + 10 + 6 = 20 isn't above 22.
+    yield "case: a child without its text"
+    yield "run: sed '15s/.*/s 2 ..+ 4 0 0/; 16d' corridor.proof2 > a.proof; qapverify corridor.dat a.proof"
+    yield "stderr: refused 28 CutTooLow at 15\nstatus: 1"
     for line in range(LINES):
         yield f"case: the first {line} lines"
         yield f"run: head -n {line} corridor.proof2 > a.proof; qapverify corridor.dat a.proof"
