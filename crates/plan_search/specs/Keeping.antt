@@ -37,11 +37,10 @@ pub record ProvesKept (I : Problem) (x : Placement) (p : List ℕ) (c g : ℤ) (
   pub cost : C.cost ≡ c
   pub bound : C.bound ≡ g
 
--- a valid proof with pair duals over a node with the same completions as what is fixed, with this permutation and its cost,
--- which is the bound
+-- a valid proof with pair duals over a node with the same completions as what is fixed, with this permutation, its cost and this bound
 pub record ShowsKept (I : Problem) (x : Placement) (p : List ℕ) (c g : ℤ) (h : Held) : Type 0 where
   pub shows : Shows I h
   pub root : (q : List ℕ) → Completes x q ↔ Completes h.root q
   pub permutation : h.permutation ≡ p
   pub cost : h.cost ≡ c
-  pub bound : g ≡ c
+  pub bound : h.bound ≡ g

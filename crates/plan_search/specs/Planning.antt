@@ -28,10 +28,10 @@ pub record ProvesOver (I : Problem) (root : Placement) (p : List ℕ) (c g : ℤ
   pub cost : C.cost ≡ c
   pub bound : C.bound ≡ g
 
--- a valid proof with pair duals over this root, with this permutation and its cost, which is the bound
+-- a valid proof with pair duals over this root, with this permutation, its cost and this bound
 pub record ShowsOver (I : Problem) (root : Placement) (p : List ℕ) (c g : ℤ) (h : Held) : Type 0 where
   pub shows : Shows I h
   pub over : h.root ≡ root
   pub permutation : h.permutation ≡ p
   pub cost : h.cost ≡ c
-  pub bound : g ≡ c
+  pub bound : h.bound ≡ g

@@ -25,8 +25,7 @@ use subtree_search::Stop;
 const LOOKS: u64 = 16;
 
 /// Searches the completions of a root from a permutation on, and proves a bound on them: with pair duals where they are in
-/// range, few facilities are free, no number of nodes is the limit, and no stop is requested before the end; otherwise by
-/// bounds of Gilmore and Lawler.
+/// range, few facilities are free, and no number of nodes is the limit; otherwise by bounds of Gilmore and Lawler.
 pub fn prove_below<T, K>(
     system: &T,
     alloc: Global,
@@ -56,8 +55,8 @@ where
     Ok(found)
 }
 
-/// Proves with pair duals, by this many workers, that no completion of the root costs less than a permutation. `None` if a
-/// number is out of range, or a stop is requested.
+/// Proves with pair duals, by this many workers, that no completion of the root costs less than a permutation, or if a stop is
+/// requested, than some bound. `None` if a number is out of range.
 fn prove_with_pairs<T, K>(
     system: &T,
     alloc: Global,
@@ -97,14 +96,14 @@ where
 fn shown_by(proof: PairProof, nodes: u64) -> Result<Planned, AllocError>
     ensures permutation { IfOk result (λ x. x.permutation ≡ proof.permutation) }
     ensures cost { IfOk result (λ x. x.cost ≡ proof.cost) }
-    ensures bound { IfOk result (λ x. x.bound ≡ proof.cost) }
+    ensures bound { IfOk result (λ x. x.bound ≡ proof.bound) }
     ensures proof { IfOk result (λ x. x.proof ≡ None) }
     ensures pair_proof { IfOk result (λ x. x.pair_proof ≡ Some proof) }
 {
     Ok(Planned {
         permutation: proof.permutation().copy()?,
         cost: proof.cost(),
-        bound: proof.cost(),
+        bound: proof.bound(),
         nodes,
         open_nodes: 0,
         proof: None,

@@ -1,7 +1,6 @@
 pub mod Accepting
 pub mod ClosedRefusals
 pub mod Closing
-pub mod Greatest
 pub mod HeadRefusals
 pub mod HeadSteps
 pub mod Heads

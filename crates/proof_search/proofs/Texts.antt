@@ -1,29 +1,19 @@
 -- Texts of proofs, piece by piece.
-use Rattle.std.proofs.Common.{◌≡◌, ℕ, ◌+◌, ◌<◌, List, [], ◌∷◌, ◌++◌, length, take, drop, get_or, ℤ, refl, sym, ap, ◌∙◌, arith}
+use Rattle.std.proofs.Common.{◌≡◌, ℕ, ◌+◌, ◌<◌, List, [], ◌∷◌, ◌++◌, length, take, drop, get_or, refl, sym, ap, ◌∙◌, arith}
 use Rattle.std.specs.List.{concat}
-use Rattle.std.specs.Prelude.{codes, int_lt}
-use Rattle.std.proofs.lemmas.Bool.{cond-false}
-use Rattle.std.proofs.lemmas.Int.{ints}
+use Rattle.std.specs.Prelude.{codes}
 use Rattle.std.proofs.lemmas.List.{append-nil, take-append-drop, take_more}
 use Rattle.std.proofs.lemmas.List.Folds.{concat-append}
-use Rattle.qap_lines.proofs.Fronts.{int_lt-no}
-use Rattle.qap_lines.specs.LineText.{head_text, line_text, numbers_text}
+use Rattle.qap_lines.specs.LineText.{head_text, numbers_text}
 use Rattle.qap_proof.specs.Text.{bound_text, by_turns, root_text}
 use Rattle.proof_tree.specs.Claim.{pair_proof_text}
 use Rattle.proof_tree.specs.Text.{tree_text}
 use Rattle.proof_tree.specs.Tree.{Tree}
 use Rattle.proof_search.specs.Held.{Held, claim_with, text_of}
 
--- a bound that is the cost has no line
-pub bound_text-equal : (c : ℤ) → bound_text c c ≡ []
-bound_text-equal c = cond-false (int_lt c c) (line_text (codes "bound") (c ∷ [])) [] (int_lt-no c c (omega (arith, ints)))
-
 -- with the lines of a tree, the text is that of the claim with the tree
 pub text_of-claim : (h : Held) (t : Tree) → h.lines ≡ tree_text t → text_of h ≡ pair_proof_text (claim_with h t)
-text_of-claim h t is =
-    let front = head_text (codes "qapproof") 2 h.cost h.permutation ++ root_text h.root.facilities h.root.places in
-    ap (λ l. front ++ l ++ codes "end\n") is
-    ∙ ap (λ l. l ++ tree_text t ++ codes "end\n") (sym (append-nil front) ∙ ap (λ l. front ++ l) (sym (bound_text-equal h.cost)))
+text_of-claim h t is = ap (λ l. (head_text (codes "qapproof") 2 h.cost h.permutation ++ root_text h.root.facilities h.root.places ++ bound_text h.cost h.bound) ++ l ++ codes "end\n") is
 
 -- the line of a root that isn't empty, by its numbers without the first blank
 pub root_line : (fs ks : List ℕ) → 0 < length fs → length ks ≡ length fs → codes "node " ++ drop 1 (numbers_text (by_turns fs ks)) ++ 10 ∷ [] ≡ root_text fs ks

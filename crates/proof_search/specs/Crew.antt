@@ -17,7 +17,7 @@ pub record IsOpened (I : Problem) (o : Opened) : Type 0 where
 abbrev pub IsJob : Problem → Job → Type 0
 IsJob I j = I.size ≡ j.node.size
 
--- an incumbent of the instance, and proofs of nodes that hold for its cost
+-- an incumbent of the instance, and proofs of nodes
 pub record AreFindings (I : Problem) (f : Findings) : Type 0 where
   pub incumbent : IsIncumbent I f.incumbent
-  pub pieces : All (IsPiece I f.incumbent.cost) f.pieces.items
+  pub pieces : All (IsPiece I) f.pieces.items

@@ -132,21 +132,20 @@ impl<P: Subject> Seat<P> {
     /// Proves nodes that no other worker has taken, until none is left, the workers are to stop, or memory runs out.
     fn work<R>(&mut self, place: &Workplace<'_, P, R>) {
         for _ in 0..place.jobs.len() {
-            let i = place.next.fetch_add(1, Ordering::SeqCst);
-            if i >= place.jobs.len() {
+            if place.halt.load(Ordering::SeqCst) {
                 return;
             }
-            match self.prove(place, i) {
-                Ok(true) => {}
-                _ => return,
+            let i = place.next.fetch_add(1, Ordering::SeqCst);
+            if i >= place.jobs.len() || self.prove(place, i).is_err() {
+                return;
             }
         }
     }
 
-    /// Proves the node of number `i`: `false` if the workers are to stop.
-    fn prove<R>(&mut self, place: &Workplace<'_, P, R>, i: usize) -> Result<bool, AllocError> {
+    /// Proves the node of number `i`, if there is one.
+    fn prove<R>(&mut self, place: &Workplace<'_, P, R>, i: usize) -> Result<(), AllocError> {
         let Some(job) = place.jobs.get(i) else {
-            return Ok(false);
+            return Ok(());
         };
         let start = match place.opened.get(job.parent) {
             Some(parent) => Some(&parent.duals),
@@ -160,7 +159,7 @@ impl<P: Subject> Seat<P> {
         let duals = ground.duals(alloc, node, start, &Effort::inner())?;
         let (search, findings) = (&mut self.search, &mut self.findings);
         let (incumbent, pieces) = (&mut findings.incumbent, &mut findings.pieces);
-        let is_proved = add_proof(
+        add_proof(
             alloc,
             ground,
             node,
@@ -172,7 +171,7 @@ impl<P: Subject> Seat<P> {
             &stop,
         )?;
         self.findings.nodes = self.findings.nodes.saturating_add(self.search.nodes());
-        Ok(is_proved)
+        Ok(())
     }
 }
 

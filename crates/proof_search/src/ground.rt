@@ -1,12 +1,13 @@
 //! What searches for a proof need regardless of the node.
 
-ghost use Rattle.std.specs.Prelude.{◌≡◌, ◌<◌, ◌≤ℤ◌, ℕ, pos, true, All, IfOk, MatchOption};
+ghost use Rattle.std.specs.Prelude.{◌≡◌, ◌<◌, ◌<ℤ◌, ◌≤ℤ◌, ℕ, pos, true, All, IfOk, MatchOption};
 ghost use Rattle.qap_cost.specs.Instance.{IsInstance, Problem};
+ghost use Rattle.qap_lines.specs.Bound.{IsBoundFor};
 ghost use Rattle.dual_ascent.specs.AscentRange.{HasRange};
 ghost use Rattle.pair_duals.specs.CostStep.{Divides, step_of};
 ghost use Rattle.qap_cost.specs.Placement.{Placement};
 ghost use Rattle.subtree_search.specs.Best.{IsIncumbent};
-ghost use Rattle.subtree_search.specs.Piece.{AreLinesOf, IsPiece};
+ghost use Rattle.subtree_search.specs.Piece.{AreLinesOf, AreWhole, IsPiece};
 ghost use Rattle.subtree_search.specs.Premises.{AreSymmetries};
 ghost use Rattle.proof_search.specs.Ground.{AreReady};
 
@@ -131,7 +132,8 @@ impl Ground {
     }
 
     /// Searches the subtree below a node under pair duals of its own, but for children that a piece proves, and improves the
-    /// incumbent: the text of a tree over the node, or `None` if a stop was requested.
+    /// incumbent: the text of a tree over the node, with the bound that it shows. That is the incumbent's cost, or if a stop
+    /// was requested, it may be less.
     pub fn prove<S: Stop>(
         &self,
         alloc: Global,
@@ -141,23 +143,29 @@ impl Ground {
         pieces: &[Piece],
         incumbent: &mut Incumbent,
         stop: &S,
-    ) -> Result<Option<TextRecord>, AllocError>
+    ) -> Result<Shown, AllocError>
         requires size { self.now.size ≡ node.now.size }
         requires ready { AreReady self.now node.now duals.now }
         requires incumbent { IsIncumbent self.now incumbent.old }
-        requires pieces { All (IsPiece self.now incumbent.old.cost) pieces.now }
-        ensures lines { IfOk result (λ found. MatchOption found (S.says stop.now true) (AreLinesOf self.now node.now incumbent.new.cost)) }
+        requires pieces { All (IsPiece self.now) pieces.now }
+        ensures lines { IfOk result (λ s. AreLinesOf self.now node.now s.bound s.tree) }
+        ensures bound { IfOk result (λ s. IsBoundFor incumbent.new.cost s.bound) }
+        ensures stopped { IfOk result (λ s. AreWhole incumbent.old.cost pieces.now → s.bound <ℤ incumbent.new.cost → S.says stop.now true) }
         ensures incumbent { IsIncumbent self.now incumbent.new }
         ensures no_worse { incumbent.new.cost ≤ℤ incumbent.old.cost }
     {
         let subtree = self.subtree(node, duals);
         let mut tree = TextRecord::new(alloc);
-        if search.prove(&subtree, pieces, incumbent, stop, &mut tree)? {
-            Ok(Some(tree))
-        } else {
-            Ok(None)
-        }
+        let bound = search.prove(&subtree, pieces, incumbent, stop, &mut tree)?;
+        Ok(Shown { tree, bound })
     }
+}
+
+/// The text of a tree over a node, with the bound that it shows.
+#[derive(Drop)]
+pub(crate) struct Shown {
+    pub(crate) tree: TextRecord,
+    pub(crate) bound: i128,
 }
 
 /// Lets no trial begin.

@@ -3,7 +3,7 @@
 ghost use Rattle.std.specs.Prelude.{◌≡◌, ◌≤ℤ◌, All, IfOk};
 ghost use Rattle.qap_cost.specs.Instance.{Problem};
 ghost use Rattle.subtree_search.specs.Best.{IsIncumbent};
-ghost use Rattle.subtree_search.specs.Piece.{IsPiece};
+ghost use Rattle.subtree_search.specs.Piece.{AreWhole, IsPiece};
 ghost use Rattle.proof_search.specs.Crew.{AreFindings, IsOpened};
 ghost use Rattle.proof_search.specs.Ground.{AreReady};
 
@@ -22,7 +22,7 @@ pub(crate) fn joined(
     incumbent: &mut Incumbent,
     nodes: &mut u64,
 ) -> Result<Vec<Piece>, AllocError>
-    ensures pieces { (I : Problem) → All (AreFindings I) found.items → IsIncumbent I incumbent.old → IfOk result (λ pieces. All (IsPiece I incumbent.new.cost) pieces.items) }
+    ensures pieces { (I : Problem) → All (AreFindings I) found.items → IfOk result (λ pieces. All (IsPiece I) pieces.items) }
     ensures incumbent { (I : Problem) → All (AreFindings I) found.items → IsIncumbent I incumbent.old → IsIncumbent I incumbent.new }
     ensures no_worse { incumbent.new.cost ≤ℤ incumbent.old.cost }
 {
@@ -37,7 +37,7 @@ pub(crate) fn joined(
     Ok(pieces)
 }
 
-/// The proofs of nodes, with those of their children as parts, until a stop is requested.
+/// The proofs of nodes, with those of their children as parts.
 pub(crate) fn prove_each<S: Stop>(
     alloc: Global,
     ground: &Ground,
@@ -49,16 +49,16 @@ pub(crate) fn prove_each<S: Stop>(
     stop: &S,
 ) -> Result<Vec<Piece>, AllocError>
     requires opened { All (IsOpened ground.now) opened.now }
-    requires parts { All (IsPiece ground.now incumbent.old.cost) parts.now }
+    requires parts { All (IsPiece ground.now) parts.now }
     requires incumbent { IsIncumbent ground.now incumbent.old }
-    ensures pieces { IfOk result (λ pieces. All (IsPiece ground.now incumbent.new.cost) pieces.items) }
+    ensures pieces { IfOk result (λ pieces. All (IsPiece ground.now) pieces.items) }
     ensures incumbent { IsIncumbent ground.now incumbent.new }
     ensures no_worse { incumbent.new.cost ≤ℤ incumbent.old.cost }
 {
     let mut pieces = Vec::with_capacity(alloc, opened.len())?;
     for i in 0..opened.len() {
         let (node, duals) = (&opened[i].node, &opened[i].duals);
-        let is_proved = add_proof(
+        add_proof(
             alloc,
             ground,
             node,
@@ -70,14 +70,11 @@ pub(crate) fn prove_each<S: Stop>(
             stop,
         )?;
         *nodes = nodes.saturating_add(search.nodes());
-        if !is_proved {
-            return Ok(pieces);
-        }
     }
     Ok(pieces)
 }
 
-/// Proves a node, with these proofs of its children as parts, and adds the proof: `false` if a stop was requested.
+/// Proves a node, with these proofs of its children as parts, and adds the proof.
 pub(crate) fn add_proof<S: Stop>(
     alloc: Global,
     ground: &Ground,
@@ -88,21 +85,38 @@ pub(crate) fn add_proof<S: Stop>(
     incumbent: &mut Incumbent,
     pieces: &mut Vec<Piece>,
     stop: &S,
-) -> Result<bool, AllocError>
+) -> Result<(), AllocError>
     requires size { ground.now.size ≡ node.now.size }
     requires ready { AreReady ground.now node.now duals.now }
-    requires parts { All (IsPiece ground.now incumbent.old.cost) parts.now }
+    requires parts { All (IsPiece ground.now) parts.now }
     requires incumbent { IsIncumbent ground.now incumbent.old }
-    requires pieces { All (IsPiece ground.now incumbent.old.cost) pieces.old.items }
-    ensures pieces { All (IsPiece ground.now incumbent.new.cost) pieces.new.items }
+    requires pieces { All (IsPiece ground.now) pieces.old.items }
+    ensures pieces { All (IsPiece ground.now) pieces.new.items }
     ensures incumbent { IsIncumbent ground.now incumbent.new }
     ensures no_worse { incumbent.new.cost ≤ℤ incumbent.old.cost }
 {
-    let found = ground.prove(alloc, search, node, duals, parts, incumbent, stop)?;
-    let Some(tree) = found else {
-        return Ok(false);
-    };
-    let piece = Piece::new(node.copy()?, incumbent.cost(), tree);
+    let shown = ground.prove(alloc, search, node, duals, parts, incumbent, stop)?;
+    let piece = Piece::new(node.copy()?, shown.bound, shown.tree);
     pieces.push(piece)?;
-    Ok(true)
+    Ok(())
+}
+
+/// Those of the pieces that are valid for a cost.
+pub(crate) fn whole_pieces(
+    alloc: Global,
+    pieces: Vec<Piece>,
+    cost: i128,
+) -> Result<Vec<Piece>, AllocError>
+    ensures pieces { (I : Problem) → All (IsPiece I) pieces.items → IfOk result (λ whole. All (IsPiece I) whole.items) }
+    ensures whole { IfOk result (λ whole. AreWhole cost whole.items) }
+{
+    let mut whole = Vec::with_capacity(alloc, pieces.len())?;
+    let mut rest = pieces;
+    while let Some(piece) = rest.pop() {
+        if piece.bound() < cost {
+            continue;
+        }
+        whole.push(piece)?;
+    }
+    Ok(whole)
 }

@@ -1,15 +1,17 @@
 //! The search for a proof.
 
-ghost use Rattle.std.specs.Prelude.{◌≡◌, ◌≤ℤ◌, true, All, IfOk, MatchOption, OnOk, length};
+ghost use Rattle.std.specs.Prelude.{◌≡◌, ◌⊎◌, ◌<ℤ◌, ◌≤ℤ◌, true, All, IfOk, MatchOption, OnOk, length};
+ghost use Rattle.qap_lines.specs.Bound.{IsBoundFor};
 ghost use Rattle.qap_proof.specs.Claim.{IsRoot};
+ghost use Rattle.dual_ascent.specs.AscentRange.{HasRange};
 ghost use Rattle.subtree_search.specs.Best.{IsIncumbent};
-ghost use Rattle.subtree_search.specs.Piece.{AreLinesOf, IsPiece};
-ghost use Rattle.proof_search.specs.Found.{IsProofFor, IsUnproved};
+ghost use Rattle.subtree_search.specs.Piece.{AreLinesOf, AreWhole, IsPiece};
+ghost use Rattle.proof_search.specs.Found.{IsProofFor};
 ghost use Rattle.proof_search.specs.Ground.{AreReady};
 
 use crate::crew::prove_jobs;
-use crate::ground::Ground;
-use crate::joining::{joined, prove_each};
+use crate::ground::{Ground, Shown};
+use crate::joining::{joined, prove_each, whole_pieces};
 use crate::opening::open_each;
 use crate::proof::PairProof;
 use crate::watch::Watch;
@@ -20,12 +22,12 @@ use std::alloc::{AllocError, Global};
 use std::sync::Wait;
 use std::thread::Threads;
 use std::time;
-use subtree_search::{Incumbent, Piece, SubtreeSearch, TextRecord};
+use subtree_search::{Incumbent, Piece, SubtreeSearch};
 
 /// What a search for a proof yields.
 #[derive(Drop)]
 pub struct Found {
-    /// The proof, if one was found.
+    /// The proof, unless the instance is out of range.
     pub proof: Option<PairProof>,
     /// How many nodes were evaluated: children that were neither pruned by their parent nor symmetric to an earlier one.
     pub nodes: u64,
@@ -48,8 +50,9 @@ const LEAST_FREE: usize = 14;
 /// children and theirs, each of which one of the workers proves, and each node below these whose trial under those of an
 /// ancestor ends at its limit.
 ///
-/// The calling thread watches the workers; only that thread consults the watch. There is no proof if the instance is out of
-/// range for the scale (`dual_ascent::has_range`), or if a stop was requested. The only error is out of memory.
+/// The calling thread watches the workers; only that thread consults the watch. If a stop is requested, each node that was
+/// not proved becomes a leaf, and the proof's bound is the least that one of them reaches. There is no proof if the instance
+/// is out of range for the scale (`dual_ascent::has_range`). The only error is out of memory.
 pub fn prove<R, S>(
     rt: &R,
     alloc: Global,
@@ -64,7 +67,7 @@ where
     S: Watch,
     requires root { IsRoot instance.now.size root.now }
     requires start { length start ≡ instance.now.size }
-    ensures { IfOk result (λ f. MatchOption f.proof (IsUnproved instance.now plan.scale (S.says watch.now)) (IsProofFor instance.now root.now start)) }
+    ensures { IfOk result (λ f. MatchOption f.proof (HasRange instance.now plan.scale → ⊥) (IsProofFor instance.now root.now start (S.says watch.now true))) }
 {
     let Some(ground) = Ground::new(alloc, instance, plan.scale)? else {
         return Ok(Found {
@@ -75,7 +78,7 @@ where
     step_law();
     let mut incumbent = Incumbent::new(instance, start);
     let mut nodes = 0;
-    let found = tree_over(
+    let shown = tree_over(
         rt,
         alloc,
         &ground,
@@ -85,18 +88,15 @@ where
         &mut nodes,
         watch,
     )?;
-    let Some(tree) = found else {
-        return Ok(Found { proof: None, nodes });
-    };
-    let pieces = vec![in alloc; tree]?;
-    let proof = PairProof::new(instance, root, &incumbent, pieces)?;
+    let pieces = vec![in alloc; shown.tree]?;
+    let proof = PairProof::new(instance, root, &incumbent, shown.bound, pieces)?;
     Ok(Found {
         proof: Some(proof),
         nodes,
     })
 }
 
-/// The text of a tree over a root, or `None` if a stop was requested. Improves the incumbent, and adds the nodes.
+/// The text of a tree over a root, with the bound that it shows. Improves the incumbent, and adds the nodes.
 fn tree_over<R, S>(
     rt: &R,
     alloc: Global,
@@ -106,13 +106,15 @@ fn tree_over<R, S>(
     incumbent: &mut Incumbent,
     nodes: &mut u64,
     watch: &S,
-) -> Result<Option<TextRecord>, AllocError>
+) -> Result<Shown, AllocError>
 where
     R: Threads + Wait + time::Clock + Sync,
     S: Watch,
     requires size { ground.now.size ≡ root.now.size }
     requires incumbent { IsIncumbent ground.now incumbent.old }
-    ensures lines { IfOk result (λ found. MatchOption found (S.says watch.now true) (AreLinesOf ground.now root.now incumbent.new.cost)) }
+    ensures lines { IfOk result (λ s. AreLinesOf ground.now root.now s.bound s.tree) }
+    ensures bound { IfOk result (λ s. IsBoundFor incumbent.new.cost s.bound) }
+    ensures stopped { IfOk result (λ s. s.bound <ℤ incumbent.new.cost → S.says watch.now true) }
     ensures incumbent { OnOk result (IsIncumbent ground.now incumbent.new) }
     ensures no_worse { OnOk result (incumbent.new.cost ≤ℤ incumbent.old.cost) }
 {
@@ -136,12 +138,13 @@ where
         nodes,
         watch,
     )?;
-    let found = ground.prove(alloc, &mut search, root, &duals, &pieces, incumbent, watch)?;
+    let shown = ground.prove(alloc, &mut search, root, &duals, &pieces, incumbent, watch)?;
     *nodes = nodes.saturating_add(search.nodes());
-    Ok(found)
+    Ok(shown)
 }
 
-/// Proofs of children of a root, which workers found; none where few facilities are free.
+/// Proofs of children of a root, which workers found; none where few facilities are free. Unless a stop is requested, they are
+/// valid for the incumbent's cost.
 fn pieces_below<R, S>(
     rt: &R,
     alloc: Global,
@@ -160,7 +163,8 @@ where
     requires size { ground.now.size ≡ root.now.size }
     requires ready { AreReady ground.now root.now duals.now }
     requires incumbent { IsIncumbent ground.now incumbent.old }
-    ensures pieces { IfOk result (λ pieces. All (IsPiece ground.now incumbent.new.cost) pieces.items) }
+    ensures pieces { IfOk result (λ pieces. All (IsPiece ground.now) pieces.items) }
+    ensures whole { IfOk result (λ pieces. AreWhole incumbent.new.cost pieces.items ⊎ S.says watch.now true) }
     ensures incumbent { OnOk result (IsIncumbent ground.now incumbent.new) }
     ensures no_worse { OnOk result (incumbent.new.cost ≤ℤ incumbent.old.cost) }
 {
@@ -174,5 +178,9 @@ where
     let pieces = prove_each(
         alloc, ground, &opened, &parts, search, incumbent, nodes, watch,
     )?;
-    Ok(pieces)
+    if watch.is_requested() {
+        return Ok(pieces);
+    }
+    let whole = whole_pieces(alloc, pieces, incumbent.cost())?;
+    Ok(whole)
 }

@@ -5,13 +5,13 @@ ghost use Rattle.std.specs.List.{concat};
 ghost use Rattle.qap_io.specs.Writing.{Sends};
 ghost use Rattle.qap_lines.specs.LineText.{head_text};
 ghost use Rattle.qap_lines.specs.Writing.{HasStopped, Writes};
-ghost use Rattle.qap_proof.specs.Text.{root_text};
+ghost use Rattle.qap_proof.specs.Text.{bound_text, root_text};
 ghost use Rattle.proof_search.specs.Held.{IsHeld, text_of};
 
 use crate::proof::PairProof;
 use qap_cost::Partial;
 use qap_io::{Counted, finish};
-use qap_lines::{WriteError, begin_line, write_head, write_text};
+use qap_lines::{WriteError, begin_line, write_head, write_one, write_text};
 use qap_proof::text_of_node;
 use std::alloc::{AllocError, Global};
 use std::io::Write;
@@ -46,6 +46,21 @@ fn write_root<W: Write>(
     write_text(writer, line)
 }
 
+/// Writes the line of a bound, where that is below the cost.
+fn write_bound<W: Write>(
+    writer: &mut Counted<W>,
+    line: &mut Vec<u8>,
+    proof: &PairProof,
+) -> Result<(), WriteError>
+    ensures { Writes W.contents writer.old writer.new (bound_text proof.now.cost proof.now.bound) result }
+{
+    if proof.bound() < proof.cost() {
+        write_one(writer, line, b"bound", proof.bound())
+    } else {
+        Ok(())
+    }
+}
+
 /// Writes the first four lines.
 fn write_first<W: Write>(
     writer: &mut Counted<W>,
@@ -71,11 +86,12 @@ fn write_front<W: Write>(
     proof: &PairProof,
 ) -> Result<(), WriteError>
     ensures { Writes W.contents writer.old writer.new (head_text (codes "qapproof") 2 proof.now.cost proof.now.permutation
-        ++ root_text proof.now.root.facilities proof.now.root.places) result }
+        ++ root_text proof.now.root.facilities proof.now.root.places ++ bound_text proof.now.cost proof.now.bound) result }
 {
     let mut line = Vec::new(alloc);
     write_first(writer, &mut line, proof)?;
-    write_root(alloc, writer, &mut line, proof.root())
+    write_root(alloc, writer, &mut line, proof.root())?;
+    write_bound(writer, &mut line, proof)
 }
 
 /// Writes the pieces of a text, one after the other.

@@ -10,6 +10,7 @@ pub mod Pieces
 pub mod Progress
 pub mod RowLists
 pub mod Settling
+pub mod Shown
 pub mod StepBounds
 pub mod Trees
 pub mod Tries

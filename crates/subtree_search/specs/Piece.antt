@@ -1,7 +1,8 @@
 -- Proofs of nodes, as parts of proofs of nodes above them.
-use Rattle.std.specs.Prelude.{◌≡◌, ℕ, false, None, List, ℤ, ◌≤ℤ◌}
+use Rattle.std.specs.Prelude.{◌≡◌, ℕ, false, None, List, ℤ, ◌≤ℤ◌, All}
 use Rattle.qap_cost.specs.Instance.{Problem}
 use Rattle.qap_cost.specs.Placement.{Placement}
+use Rattle.qap_cost.specs.Range.{IsLimited}
 use Rattle.pair_duals.specs.CostStep.{step_of}
 use Rattle.proof_tree.specs.Shape.{HasShape}
 use Rattle.proof_tree.specs.Text.{tree_text}
@@ -15,13 +16,17 @@ pub record AreLinesOf (I : Problem) (y : Placement) (c : ℤ) (lines : List ℕ)
   pub valid : (bound : ℤ) → bound ≤ℤ c → Valid I (step_of I) bound y None tree
   pub is : lines ≡ tree_text tree
 
--- a node, a cost, and the lines of a tree
+-- a node, a bound, and the lines of a tree
 pub record Proved : Type 0 where
   pub node : Placement
-  pub cost : ℤ
+  pub bound : ℤ
   pub lines : List ℕ
 
--- the tree is over the node, and valid for every bound up to the cost, which is at least c
-pub record IsPiece (I : Problem) (c : ℤ) (p : Proved) : Type 0 where
-  pub least : c ≤ℤ p.cost
-  pub proves : AreLinesOf I p.node p.cost p.lines
+-- the tree is over the node, and valid for every bound up to this one, which a text may state
+pub record IsPiece (I : Problem) (p : Proved) : Type 0 where
+  pub limited : IsLimited p.bound
+  pub proves : AreLinesOf I p.node p.bound p.lines
+
+-- each tree is valid for c
+abbrev pub AreWhole : ℤ → List Proved → Type 0
+AreWhole c ps = All (λ (p : Proved). c ≤ℤ p.bound) ps

@@ -24,7 +24,7 @@ use crate::line::Line;
 use crate::path::Path;
 use crate::record::Record;
 use crate::split::OpenChild;
-use crate::threshold::threshold;
+use crate::threshold::{greatest_reached, threshold};
 use pair_duals::{KeptResiduals, PairDuals, Reduced};
 use qap_cost::{Instance, Partial, Perm};
 use std::alloc::AllocError;
@@ -69,6 +69,15 @@ impl Ground<'_> {
         ensures { result ≡ threshold_of self.now.duals.now.scale self.now.step incumbent.now.cost }
     {
         threshold(self.duals.scale(), self.step, incumbent.cost())
+    }
+
+    /// The greatest bound that the value of a node reaches.
+    pub fn bound_of(&self, level: &Level) -> i128
+        requires { AreSound self.now.instance.now self.now.duals.now self.now.step }
+        ensures { Reaches self.now.instance.now self.now.duals.now.scale result level.now.form.value }
+    {
+        self.duals.duals_law();
+        greatest_reached(self.step, self.duals.scale(), level.form.value())
     }
 
     /// Goes to the node that the pair duals belong to, whose form is made in the level.

@@ -8,28 +8,28 @@ use crate::text_record::TextRecord;
 use qap_cost::Partial;
 use std::marker::Model;
 
-/// The text of a tree over a node, which proves that no completion of the node costs less than some cost.
+/// The text of a tree over a node, which proves that no completion of the node costs less than a bound.
 #[derive(Drop)]
 pub struct Piece {
     node: Partial,
-    cost: i128,
+    bound: i128,
     tree: TextRecord,
 }
 
 impl Model for Piece {
     ghost Value = { Proved };
 
-    ghost view = { λ s. record { node = s.node; cost = s.cost; lines = s.tree } };
+    ghost view = { λ s. record { node = s.node; bound = s.bound; lines = s.tree } };
 }
 
 impl Piece {
-    /// This tree over this node, with the cost up to which it is valid.
-    pub fn new(node: Partial, cost: i128, tree: TextRecord) -> Piece
+    /// This tree over this node, with the bound up to which it is valid.
+    pub fn new(node: Partial, bound: i128, tree: TextRecord) -> Piece
         ensures node { result.node ≡ node }
-        ensures cost { result.cost ≡ cost }
+        ensures bound { result.bound ≡ bound }
         ensures lines { result.lines ≡ tree }
     {
-        Piece { node, cost, tree }
+        Piece { node, bound, tree }
     }
 
     /// The node.
@@ -37,6 +37,13 @@ impl Piece {
         ensures { result.now ≡ self.now.node }
     {
         &self.node
+    }
+
+    /// The bound.
+    pub fn bound(&self) -> i128
+        ensures { result ≡ self.now.bound }
+    {
+        self.bound
     }
 
     /// The facility that its node places last, and the location, if the node is a child of this one.

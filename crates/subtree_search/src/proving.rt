@@ -1,7 +1,9 @@
 //! The proof of a node: each split's children are tried, and those that remain open get their own pair duals.
 
-ghost use Rattle.std.specs.Prelude.{◌≡◌, ◌<◌, ◌≤◌, ◌≤ℤ◌, ℤ, pos, false, true, All, IfOk, IfSome, IsTrue, OnOk, length};
+ghost use Rattle.std.specs.Prelude.{◌≡◌, ◌<◌, ◌≤◌, ◌<ℤ◌, ◌≤ℤ◌, ℤ, None, pos, true, All, IfOk, IfSome, OnOk, length};
 ghost use Rattle.qap_cost.specs.Placement.{free_facilities};
+ghost use Rattle.qap_cost.specs.Range.{IsLimited};
+ghost use Rattle.qap_lines.specs.Bound.{IsBoundFor};
 ghost use Rattle.dual_ascent.specs.AscentRange.{HasRange};
 ghost use Rattle.pair_duals.specs.CostStep.{step_of};
 ghost use Rattle.pair_duals.specs.PairDuals.{AreOf, Fit};
@@ -9,9 +11,10 @@ ghost use Rattle.pair_duals.specs.Reduced.{Form, count_of};
 ghost use Rattle.subtree_search.specs.Best.{IsIncumbent};
 ghost use Rattle.subtree_search.specs.Drawn.{IsDrawn};
 ghost use Rattle.subtree_search.specs.Lines.{IsLineOf};
-ghost use Rattle.subtree_search.specs.Piece.{IsPiece};
+ghost use Rattle.subtree_search.specs.Piece.{AreWhole, IsPiece};
 ghost use Rattle.subtree_search.specs.Premises.{AreSound, AreSymmetries, IsNode};
 ghost use Rattle.subtree_search.specs.Recorded.{HasKid, HasProof, HasSplit};
+ghost use Rattle.subtree_search.specs.Trials.{IsGrown};
 
 use crate::ground::Ground;
 use crate::incumbent::Incumbent;
@@ -29,9 +32,13 @@ use pair_duals::PairDuals;
 use qap_cost::Partial;
 use std::alloc::{AllocError, Global};
 
+/// The least bound that a text may state.
+const LEAST_BOUND: i128 = -1_000_000_000_000_000_000_000_000;
+
 impl SubtreeSearch {
-    /// Adds a proof's tree over a node to the record. If the trial of a child ends at its limit, the child gets its own
-    /// pair duals, and is split in turn. `false` if a stop was requested.
+    /// Adds a proof's tree over a node to the record, and returns the bound that it shows: the incumbent's cost, or less. If
+    /// the trial of a child ends at its limit, the child gets its own pair duals, and is split in turn. Once a stop is
+    /// requested, a child that its trial leaves open becomes a leaf instead, and the bound is the least that one reaches.
     ///
     /// Where a piece proves a child of the node, its text is added, and the child is not searched.
     pub fn prove<S: Stop, W: Record>(
@@ -41,7 +48,7 @@ impl SubtreeSearch {
         incumbent: &mut Incumbent,
         stop: &S,
         proof: &mut W,
-    ) -> Result<bool, AllocError>
+    ) -> Result<i128, AllocError>
         requires size { subtree.now.instance.now.size ≡ subtree.now.node.now.size }
         requires duals { AreOf subtree.now.node.now subtree.now.duals.now }
         requires range { HasRange subtree.now.instance.now subtree.now.duals.now.scale }
@@ -49,9 +56,10 @@ impl SubtreeSearch {
         requires step { subtree.now.step ≡ pos (step_of subtree.now.instance.now) }
         requires symmetries { AreSymmetries subtree.now.instance.now subtree.now.flows.now subtree.now.distances.now }
         requires incumbent { IsIncumbent subtree.now.instance.now incumbent.old }
-        requires pieces { All (IsPiece subtree.now.instance.now incumbent.old.cost) pieces.now }
-        ensures recorded { IfOk result (λ done. IsTrue done → HasProof subtree.now.instance.now subtree.now.node.now incumbent.new.cost (W.holds proof.old) (W.holds proof.new)) }
-        ensures stopped { IfOk result (λ done. done ≡ false → S.says stop.now true) }
+        requires pieces { All (IsPiece subtree.now.instance.now) pieces.now }
+        ensures recorded { IfOk result (λ bound. HasProof subtree.now.instance.now subtree.now.node.now bound (W.holds proof.old) (W.holds proof.new)) }
+        ensures bound { IfOk result (IsBoundFor incumbent.new.cost) }
+        ensures stopped { IfOk result (λ bound. AreWhole incumbent.old.cost pieces.now → bound <ℤ incumbent.new.cost → S.says stop.now true) }
         ensures incumbent { IsIncumbent subtree.now.instance.now incumbent.new }
         ensures no_worse { incumbent.new.cost ≤ℤ incumbent.old.cost }
     {
@@ -84,7 +92,7 @@ impl SubtreeSearch {
             node: subtree.node,
             pieces,
         };
-        let is_done = prove_node(
+        let bound = prove_node(
             &part,
             &mut self.levels,
             &mut self.path,
@@ -94,7 +102,7 @@ impl SubtreeSearch {
         )?;
         self.nodes = nodes;
         take_back(&mut self.residuals, kept);
-        Ok(is_done)
+        Ok(bound)
     }
 }
 
@@ -117,7 +125,7 @@ fn prove_node<S: Stop, W: Record>(
     incumbent: &mut Incumbent,
     nodes: &mut u64,
     proof: &mut W,
-) -> Result<bool, AllocError>
+) -> Result<i128, AllocError>
     requires size { part.now.task.now.ground.now.instance.now.size ≡ part.now.node.now.size }
     requires duals { AreOf part.now.node.now part.now.task.now.ground.now.duals.now }
     requires sound { AreSound part.now.task.now.ground.now.instance.now part.now.task.now.ground.now.duals.now part.now.task.now.ground.now.step }
@@ -125,9 +133,10 @@ fn prove_node<S: Stop, W: Record>(
     requires room { length part.now.task.now.ground.now.duals.now.facilities < length levels.old }
     requires symmetries { AreSymmetries part.now.task.now.ground.now.instance.now part.now.task.now.ground.now.flows.now part.now.task.now.ground.now.distances.now }
     requires incumbent { IsIncumbent part.now.task.now.ground.now.instance.now incumbent.old }
-    requires pieces { All (IsPiece part.now.task.now.ground.now.instance.now incumbent.old.cost) part.now.pieces.now }
-    ensures recorded { IfOk result (λ done. IsTrue done → HasProof part.now.task.now.ground.now.instance.now part.now.node.now incumbent.new.cost (W.holds proof.old) (W.holds proof.new)) }
-    ensures stopped { IfOk result (λ done. done ≡ false → S.says part.now.task.now.stop.now true) }
+    requires pieces { All (IsPiece part.now.task.now.ground.now.instance.now) part.now.pieces.now }
+    ensures recorded { IfOk result (λ bound. HasProof part.now.task.now.ground.now.instance.now part.now.node.now bound (W.holds proof.old) (W.holds proof.new)) }
+    ensures bound { IfOk result (IsBoundFor incumbent.new.cost) }
+    ensures stopped { IfOk result (λ bound. AreWhole incumbent.old.cost part.now.pieces.now → bound <ℤ incumbent.new.cost → S.says part.now.task.now.stop.now true) }
     ensures path { OnOk result (path.new ≡ part.now.node.now) }
     ensures incumbent { IsIncumbent part.now.task.now.ground.now.instance.now incumbent.new }
     ensures no_worse { incumbent.new.cost ≤ℤ incumbent.old.cost }
@@ -139,13 +148,13 @@ fn prove_node<S: Stop, W: Record>(
     ground.duals.duals_law();
     proof.pair_duals(ground.duals)?;
     if ground.closes_as_leaf(level, path, incumbent, proof)? {
-        return Ok(true);
+        return Ok(incumbent.cost());
     }
-    let is_done = prove_children(part, level, deeper, path, incumbent, nodes, proof)?;
-    Ok(is_done)
+    let bound = prove_children(part, level, deeper, path, incumbent, nodes, proof)?;
+    Ok(bound)
 }
 
-/// Proves the children on a row or column, in order.
+/// Proves the children on a row or column, in order, and returns the least bound that one of them shows.
 #[cycle(proving)]
 fn prove_children<S: Stop, W: Record>(
     part: &Part<'_, S>,
@@ -155,7 +164,7 @@ fn prove_children<S: Stop, W: Record>(
     incumbent: &mut Incumbent,
     nodes: &mut u64,
     proof: &mut W,
-) -> Result<bool, AllocError>
+) -> Result<i128, AllocError>
     requires at { path.old ≡ part.now.node.now }
     requires node { IsNode part.now.task.now.ground.now.instance.now part.now.task.now.ground.now.duals.now part.now.task.now.ground.now.step path.old level.now.form }
     requires drawn { (start : Form) × IsDrawn start level.now.form level.now.u.items }
@@ -163,9 +172,10 @@ fn prove_children<S: Stop, W: Record>(
     requires room { count_of level.now.form ≤ length deeper.old }
     requires symmetries { AreSymmetries part.now.task.now.ground.now.instance.now part.now.task.now.ground.now.flows.now part.now.task.now.ground.now.distances.now }
     requires incumbent { IsIncumbent part.now.task.now.ground.now.instance.now incumbent.old }
-    requires pieces { All (IsPiece part.now.task.now.ground.now.instance.now incumbent.old.cost) part.now.pieces.now }
-    ensures recorded { IfOk result (λ done. IsTrue done → HasSplit part.now.task.now.ground.now.instance.now part.now.task.now.ground.now.duals.now path.old level.now.form level.now.u.items incumbent.new.cost (W.holds proof.old) (W.holds proof.new)) }
-    ensures stopped { IfOk result (λ done. done ≡ false → S.says part.now.task.now.stop.now true) }
+    requires pieces { All (IsPiece part.now.task.now.ground.now.instance.now) part.now.pieces.now }
+    ensures recorded { IfOk result (λ bound. HasSplit part.now.task.now.ground.now.instance.now part.now.task.now.ground.now.duals.now path.old level.now.form level.now.u.items bound (W.holds proof.old) (W.holds proof.new)) }
+    ensures bound { IfOk result (IsBoundFor incumbent.new.cost) }
+    ensures stopped { IfOk result (λ bound. AreWhole incumbent.old.cost part.now.pieces.now → bound <ℤ incumbent.new.cost → S.says part.now.task.now.stop.now true) }
     ensures path { OnOk result (path.new ≡ path.old) }
     ensures incumbent { IsIncumbent part.now.task.now.ground.now.instance.now incumbent.new }
     ensures no_worse { incumbent.new.cost ≤ℤ incumbent.old.cost }
@@ -175,15 +185,27 @@ fn prove_children<S: Stop, W: Record>(
     let number = ground.number_of(level, path, line);
     let marks = proof.split(line.side(), number, level.u())?;
     let split = Split { level, line, marks };
+    let mut bound = incumbent.cost();
     for k in 0..level.form.free() {
-        if is_settled(part, &split, k, deeper, path, incumbent, proof)? {
+        let found = settled(part, &split, k, deeper, path, incumbent, proof)?;
+        if let Some(shown) = found {
+            bound = lesser(bound, shown);
             continue;
         }
-        if !prove_child(part, &split, k, deeper, path, incumbent, nodes, proof)? {
-            return Ok(false);
-        }
+        let shown = prove_child(part, &split, k, deeper, path, incumbent, nodes, proof)?;
+        bound = lesser(bound, shown);
     }
-    Ok(true)
+    Ok(bound)
+}
+
+/// The lesser of two bounds.
+fn lesser(a: i128, b: i128) -> i128
+    ensures first { result ≤ℤ a }
+    ensures second { result ≤ℤ b }
+    ensures greatest { (c : ℤ) → c ≤ℤ a → c ≤ℤ b → c ≤ℤ result }
+    ensures limited { IsLimited a → IsLimited b → IsLimited result }
+{
+    if b < a { b } else { a }
 }
 
 /// The row or column to split the node on: the one that its pieces lie on, or else the one that dives choose.
@@ -254,8 +276,8 @@ fn is_or_any(given: Option<u16>, number: u16) -> bool {
     }
 }
 
-/// Whether the child of number `k` needs no search: it is skipped, or a piece proves it, whose text is added.
-fn is_settled<S: Stop, W: Record>(
+/// The bound that the child of number `k` shows without a search: it is skipped, or a piece proves it, whose text is added.
+fn settled<S: Stop, W: Record>(
     part: &Part<'_, S>,
     split: &Split<'_>,
     k: usize,
@@ -263,26 +285,28 @@ fn is_settled<S: Stop, W: Record>(
     path: &mut Path,
     incumbent: &Incumbent,
     proof: &mut W,
-) -> Result<bool, AllocError>
+) -> Result<Option<i128>, AllocError>
     requires node { IsNode part.now.task.now.ground.now.instance.now part.now.task.now.ground.now.duals.now part.now.task.now.ground.now.step path.old split.now.level.now.form }
     requires incumbent { IsIncumbent part.now.task.now.ground.now.instance.now incumbent.now }
     requires line { IsLineOf (count_of split.now.level.now.form) split.now.line }
     requires k_in { k < count_of split.now.level.now.form }
     requires room { count_of split.now.level.now.form ≤ length deeper.old }
     requires symmetries { AreSymmetries part.now.task.now.ground.now.instance.now part.now.task.now.ground.now.flows.now part.now.task.now.ground.now.distances.now }
-    requires pieces { All (IsPiece part.now.task.now.ground.now.instance.now incumbent.now.cost) part.now.pieces.now }
-    ensures settled { IfOk result (λ settled. IsTrue settled → HasKid part.now.task.now.ground.now.instance.now part.now.task.now.ground.now.duals.now path.old split.now.level.now.form split.now.line k incumbent.now.cost (W.ends split.now.marks) (W.holds proof.old) (W.holds proof.new)) }
-    ensures left { IfOk result (λ settled. settled ≡ false → proof.new ≡ proof.old) }
+    requires pieces { All (IsPiece part.now.task.now.ground.now.instance.now) part.now.pieces.now }
+    ensures settled { IfOk result (λ shown. IfSome shown (λ bound. HasKid part.now.task.now.ground.now.instance.now part.now.task.now.ground.now.duals.now path.old split.now.level.now.form split.now.line k bound (W.ends split.now.marks) (W.holds proof.old) (W.holds proof.new))) }
+    ensures limited { IfOk result (λ shown. IfSome shown IsLimited) }
+    ensures whole { IfOk result (λ shown. IfSome shown (λ bound. (c : ℤ) → c ≤ℤ incumbent.now.cost → AreWhole c part.now.pieces.now → c ≤ℤ bound)) }
+    ensures left { IfOk result (λ shown. shown ≡ None → proof.new ≡ proof.old) }
     ensures path { OnOk result (path.new ≡ path.old) }
 {
     if skip(part.task, split, path, incumbent, k, proof)? {
-        return Ok(true);
+        return Ok(Some(incumbent.cost()));
     }
-    let is_added = add_piece(part, split, k, deeper, path, proof)?;
-    Ok(is_added)
+    let shown = add_piece(part, split, k, deeper, path, proof)?;
+    Ok(shown)
 }
 
-/// Adds the text of the piece over the child of number `k`, if there is one.
+/// Adds the text of the piece over the child of number `k`, if there is one, and returns its bound.
 fn add_piece<S: Stop, W: Record>(
     part: &Part<'_, S>,
     split: &Split<'_>,
@@ -290,17 +314,20 @@ fn add_piece<S: Stop, W: Record>(
     deeper: &mut [Level],
     path: &mut Path,
     proof: &mut W,
-) -> Result<bool, AllocError>
+) -> Result<Option<i128>, AllocError>
     requires node { IsNode part.now.task.now.ground.now.instance.now part.now.task.now.ground.now.duals.now part.now.task.now.ground.now.step path.old split.now.level.now.form }
     requires line { IsLineOf (count_of split.now.level.now.form) split.now.line }
     requires k_in { k < count_of split.now.level.now.form }
     requires room { count_of split.now.level.now.form ≤ length deeper.old }
-    ensures added { IfOk result (λ added. IsTrue added → (c : ℤ) → All (IsPiece part.now.task.now.ground.now.instance.now c) part.now.pieces.now → HasKid part.now.task.now.ground.now.instance.now part.now.task.now.ground.now.duals.now path.old split.now.level.now.form split.now.line k c (W.ends split.now.marks) (W.holds proof.old) (W.holds proof.new)) }
-    ensures left { IfOk result (λ added. added ≡ false → proof.new ≡ proof.old) }
+    requires pieces { All (IsPiece part.now.task.now.ground.now.instance.now) part.now.pieces.now }
+    ensures added { IfOk result (λ shown. IfSome shown (λ bound. HasKid part.now.task.now.ground.now.instance.now part.now.task.now.ground.now.duals.now path.old split.now.level.now.form split.now.line k bound (W.ends split.now.marks) (W.holds proof.old) (W.holds proof.new))) }
+    ensures limited { IfOk result (λ shown. IfSome shown IsLimited) }
+    ensures whole { IfOk result (λ shown. IfSome shown (λ bound. (c : ℤ) → AreWhole c part.now.pieces.now → c ≤ℤ bound)) }
+    ensures left { IfOk result (λ shown. shown ≡ None → proof.new ≡ proof.old) }
     ensures path { OnOk result (path.new ≡ path.old) }
 {
     if part.pieces.is_empty() {
-        return Ok(false);
+        return Ok(None);
     }
     let (h, g) = (split.line.row(k), split.line.column(k));
     let next = &mut deeper[0];
@@ -308,14 +335,16 @@ fn add_piece<S: Stop, W: Record>(
     let found = index_of(part.pieces, path);
     path.pop();
     let Some(i) = found else {
-        return Ok(false);
+        return Ok(None);
     };
+    let piece = &part.pieces[i];
     proof.mark(split.marks, k);
-    proof.subtree(part.pieces[i].tree())?;
-    Ok(true)
+    proof.subtree(piece.tree())?;
+    Ok(Some(piece.bound()))
 }
 
-/// Proves the child of number `k`: by a trial, or else under pair duals of its own.
+/// Proves the child of number `k`, and returns the bound that it shows: by a trial, or else under pair duals of its own;
+/// or if a stop is requested, by a leaf.
 #[cycle(proving)]
 fn prove_child<S: Stop, W: Record>(
     part: &Part<'_, S>,
@@ -326,7 +355,7 @@ fn prove_child<S: Stop, W: Record>(
     incumbent: &mut Incumbent,
     nodes: &mut u64,
     proof: &mut W,
-) -> Result<bool, AllocError>
+) -> Result<i128, AllocError>
     requires at { path.old ≡ part.now.node.now }
     requires node { IsNode part.now.task.now.ground.now.instance.now part.now.task.now.ground.now.duals.now part.now.task.now.ground.now.step path.old split.now.level.now.form }
     requires line { IsLineOf (count_of split.now.level.now.form) split.now.line }
@@ -335,8 +364,9 @@ fn prove_child<S: Stop, W: Record>(
     requires room { count_of split.now.level.now.form ≤ length deeper.old }
     requires symmetries { AreSymmetries part.now.task.now.ground.now.instance.now part.now.task.now.ground.now.flows.now part.now.task.now.ground.now.distances.now }
     requires incumbent { IsIncumbent part.now.task.now.ground.now.instance.now incumbent.old }
-    ensures recorded { IfOk result (λ done. IsTrue done → HasKid part.now.task.now.ground.now.instance.now part.now.task.now.ground.now.duals.now path.old split.now.level.now.form split.now.line k incumbent.new.cost (W.ends split.now.marks) (W.holds proof.old) (W.holds proof.new)) }
-    ensures stopped { IfOk result (λ done. done ≡ false → S.says part.now.task.now.stop.now true) }
+    ensures recorded { IfOk result (λ bound. HasKid part.now.task.now.ground.now.instance.now part.now.task.now.ground.now.duals.now path.old split.now.level.now.form split.now.line k bound (W.ends split.now.marks) (W.holds proof.old) (W.holds proof.new)) }
+    ensures bound { IfOk result (IsBoundFor incumbent.new.cost) }
+    ensures stopped { IfOk result (λ bound. bound <ℤ incumbent.new.cost → S.says part.now.task.now.stop.now true) }
     ensures path { OnOk result (path.new ≡ path.old) }
     ensures incumbent { IsIncumbent part.now.task.now.ground.now.instance.now incumbent.new }
     ensures no_worse { incumbent.new.cost ≤ℤ incumbent.old.cost }
@@ -344,15 +374,53 @@ fn prove_child<S: Stop, W: Record>(
     let task = part.task;
     let tried = try_child(task, split, k, deeper, path, incumbent, nodes, proof)?;
     let Some(child) = tried else {
-        return Ok(true);
+        return Ok(incumbent.cost());
     };
-    if task.stop.is_requested() {
-        return Ok(false);
+    let left = leave_child(task, split, k, deeper, path, incumbent, proof)?;
+    if let Some(bound) = left {
+        return Ok(bound);
     }
     let node = part.node.place(child.facility, child.location)?;
-    let is_done = prove_below(part, node, deeper, path, incumbent, nodes, proof)?;
+    let bound = prove_below(part, node, deeper, path, incumbent, nodes, proof)?;
     path.pop();
-    Ok(is_done)
+    Ok(bound)
+}
+
+/// If a stop is requested, adds the child of number `k`, which is marked, as a leaf, and returns the greatest bound that it
+/// reaches, or the incumbent's cost where that is less. `None` also where no text may state the bound.
+fn leave_child<S: Stop, W: Record>(
+    task: &Task<'_, S>,
+    split: &Split<'_>,
+    k: usize,
+    deeper: &mut [Level],
+    path: &mut Path,
+    incumbent: &Incumbent,
+    proof: &mut W,
+) -> Result<Option<i128>, AllocError>
+    requires node { IsNode task.now.ground.now.instance.now task.now.ground.now.duals.now task.now.ground.now.step path.old split.now.level.now.form }
+    requires line { IsLineOf (count_of split.now.level.now.form) split.now.line }
+    requires k_in { k < count_of split.now.level.now.form }
+    requires room { count_of split.now.level.now.form ≤ length deeper.old }
+    ensures recorded { IfOk result (λ left. IfSome left (λ bound. IsGrown task.now.ground.now.instance.now task.now.ground.now.duals.now path.old split.now.level.now.form split.now.line k bound (W.holds proof.old) (W.holds proof.new))) }
+    ensures bound { IfOk result (λ left. IfSome left (IsBoundFor incumbent.now.cost)) }
+    ensures stopped { IfOk result (λ left. IfSome left (λ _. S.says task.now.stop.now true)) }
+    ensures none { IfOk result (λ left. left ≡ None → proof.new ≡ proof.old) }
+    ensures path { OnOk result (path.new ≡ path.old) }
+{
+    if !task.stop.is_requested() {
+        return Ok(None);
+    }
+    let (h, g) = (split.line.row(k), split.line.column(k));
+    let next = &mut deeper[0];
+    task.ground.descend(split.level, next, path, h, g)?;
+    path.pop();
+    next.draw_line(task.ground.threshold(incumbent))?;
+    let bound = lesser(task.ground.bound_of(next), incumbent.cost());
+    if bound < LEAST_BOUND {
+        return Ok(None);
+    }
+    proof.leaf(next.u())?;
+    Ok(Some(bound))
 }
 
 /// Proves a child under pair duals of its own.
@@ -365,15 +433,16 @@ fn prove_below<S: Stop, W: Record>(
     incumbent: &mut Incumbent,
     nodes: &mut u64,
     proof: &mut W,
-) -> Result<bool, AllocError>
+) -> Result<i128, AllocError>
     requires size { above.now.task.now.ground.now.instance.now.size ≡ node.size }
     requires sound { AreSound above.now.task.now.ground.now.instance.now above.now.task.now.ground.now.duals.now above.now.task.now.ground.now.step }
     requires range { HasRange above.now.task.now.ground.now.instance.now above.now.task.now.ground.now.duals.now.scale }
     requires room { length (free_facilities node) < length levels.old }
     requires symmetries { AreSymmetries above.now.task.now.ground.now.instance.now above.now.task.now.ground.now.flows.now above.now.task.now.ground.now.distances.now }
     requires incumbent { IsIncumbent above.now.task.now.ground.now.instance.now incumbent.old }
-    ensures recorded { IfOk result (λ done. IsTrue done → HasProof above.now.task.now.ground.now.instance.now node incumbent.new.cost (W.holds proof.old) (W.holds proof.new)) }
-    ensures stopped { IfOk result (λ done. done ≡ false → S.says above.now.task.now.stop.now true) }
+    ensures recorded { IfOk result (λ bound. HasProof above.now.task.now.ground.now.instance.now node bound (W.holds proof.old) (W.holds proof.new)) }
+    ensures bound { IfOk result (IsBoundFor incumbent.new.cost) }
+    ensures stopped { IfOk result (λ bound. bound <ℤ incumbent.new.cost → S.says above.now.task.now.stop.now true) }
     ensures path { OnOk result (path.new ≡ node) }
     ensures incumbent { IsIncumbent above.now.task.now.ground.now.instance.now incumbent.new }
     ensures no_worse { incumbent.new.cost ≤ℤ incumbent.old.cost }

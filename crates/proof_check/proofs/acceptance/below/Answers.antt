@@ -3,7 +3,8 @@ use Rattle.std.specs.Prelude.{◌-ℤ◌}
 use Rattle.std.specs.Int.{int_div_euclid, int_rem_euclid, w128}
 use Rattle.std.proofs.lemmas.Int.{ints}
 use Rattle.proof_check.proofs.Closing.{far_read}
-use Rattle.proof_check.proofs.Multiples.{IsRemainder, IsRemainder-euclid, IsGreatestBelow-remainder}
+use Rattle.proof_tree.proofs.Remainders.{IsRemainder, IsRemainder-euclid}
+use Rattle.proof_check.proofs.Multiples.{IsGreatestBelow-remainder}
 use Rattle.proof_check.proofs.acceptance.below.Goals as goal
 
 pub returns : goal.returns

@@ -1,6 +1,6 @@
 use Rattle.std.proofs.Common.{◌≡◌, of_z, rules, to_z, arith}
 use Rattle.std.specs.Int.{w128}
-use Rattle.proof_check.proofs.Greatest.{IsComputed-quotient}
+use Rattle.proof_tree.proofs.Greatest.{IsComputed-quotient}
 use Rattle.proof_check.proofs.leaf.greatest_reached.Goals as goal
 
 pub overflow_mul-result : goal.overflow_mul-result

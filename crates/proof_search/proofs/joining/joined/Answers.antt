@@ -4,7 +4,6 @@ use Rattle.std.proofs.lemmas.Int.{ints}
 use Rattle.std.proofs.lemmas.List.Elements.{All-append, All-pop}
 use Rattle.qap_cost.specs.Instance.{Problem}
 use Rattle.subtree_search.specs.Piece.{IsPiece}
-use Rattle.subtree_search.proofs.Pieces.{pieces-less}
 use Rattle.proof_search.specs.Crew.{AreFindings}
 use Rattle.proof_search.specs.declared.crew.Findings.{Findings}
 use Rattle.proof_search.proofs.joining.joined.Goals as goal
@@ -20,13 +19,10 @@ loop-one-preserved c =
     let kept = c.loop-one.invariant in
     let popped = λ (I : Problem) (all : All (AreFindings I) c.args.found.items). All-pop (AreFindings I) c.loop-one.rest.items c.pop.new.self.items c.pop.result c.pop.ensures.items (kept.rest I all) in
     let one = λ (I : Problem) (all : All (AreFindings I) c.args.found.items). subst (λ (o : Option Findings). IfSome o (AreFindings I)) c.in-Some.is (popped I all).1 in
-    let cost = c.adopt.new.self.cost in
     record {
       rest = λ I all. (popped I all).0;
       incumbent = λ I all first. c.adopt.ensures.incumbent I (kept.incumbent I all first) (one I all).incumbent;
-      pieces = λ I all first.
-          subst (All (IsPiece I cost)) (sym c.in_ok-append.ensures.items)
-          (All-append (IsPiece I cost) c.loop-one.pieces.items c.in-Some.one.pieces.items (pieces-less I c.loop-one.incumbent.cost cost c.loop-one.pieces.items c.adopt.ensures.no_worse (kept.pieces I all first))
-          (pieces-less I c.in-Some.one.incumbent.cost cost c.in-Some.one.pieces.items c.adopt.ensures.adopted (one I all).pieces));
+      pieces = λ I all.
+          subst (All (IsPiece I)) (sym c.in_ok-append.ensures.items) (All-append (IsPiece I) c.loop-one.pieces.items c.in-Some.one.pieces.items (kept.pieces I all) (one I all).pieces);
       no_worse = (let a = c.adopt.ensures.no_worse in let b = kept.no_worse in omega (arith, ints, a, b));
     }

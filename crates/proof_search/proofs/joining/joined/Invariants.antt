@@ -10,7 +10,7 @@ abbrev pub invariant-loop-one : goal.invariant-loop-one
 invariant-loop-one l = record {
   rest : (I : Problem) → All (AreFindings I) l.fn.found.items → All (AreFindings I) l.rest.items;
   incumbent : (I : Problem) → All (AreFindings I) l.fn.found.items → IsIncumbent I l.fn.incumbent → IsIncumbent I l.incumbent;
-  pieces : (I : Problem) → All (AreFindings I) l.fn.found.items → IsIncumbent I l.fn.incumbent → All (IsPiece I l.incumbent.cost) l.pieces.items;
+  pieces : (I : Problem) → All (AreFindings I) l.fn.found.items → All (IsPiece I) l.pieces.items;
   no_worse : l.incumbent.cost ≤ℤ l.fn.incumbent.cost;
 }
 

@@ -7,5 +7,5 @@ abbrev pub invariant-loop-i : goal.invariant-loop-i
 invariant-loop-i g l = record {
   incumbent : IsIncumbent l.ground l.incumbent;
   no_worse : l.incumbent.cost ≤ℤ l.fn.incumbent.cost;
-  pieces : All (IsPiece l.ground l.incumbent.cost) l.pieces.items;
+  pieces : All (IsPiece l.ground) l.pieces.items;
 }

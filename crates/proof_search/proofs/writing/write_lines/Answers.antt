@@ -3,13 +3,13 @@ use Rattle.std.specs.Prelude.{codes, ℕ}
 use Rattle.qap_lines.specs.LineText.{head_text}
 use Rattle.qap_lines.specs.Writing.{HasStopped, HasWritten}
 use Rattle.qap_lines.proofs.WrittenTexts.{HasStopped-longer, HasWritten-then, Writes-then, fails_with, stops_in}
-use Rattle.qap_proof.specs.Text.{root_text}
+use Rattle.qap_proof.specs.Text.{bound_text, root_text}
 use Rattle.proof_search.specs.Held.{Held}
 use Rattle.proof_search.proofs.writing.write_lines.Goals as goal
 
 -- the lines before the tree
 abbrev front_of : Held → List ℕ
-front_of h = head_text (codes "qapproof") 2 h.cost h.permutation ++ root_text h.root.facilities h.root.places
+front_of h = head_text (codes "qapproof") 2 h.cost h.permutation ++ root_text h.root.facilities h.root.places ++ bound_text h.cost h.bound
 
 pub returns-in_err-write_front : goal.returns-in_err-write_front
 returns-in_err-write_front g c =

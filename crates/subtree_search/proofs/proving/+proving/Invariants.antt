@@ -1,6 +1,8 @@
 use Rattle.std.proofs.Common.{◌≡◌, ◌+◌, ◌*◌, length}
-use Rattle.std.specs.Prelude.{◌≤ℤ◌}
+use Rattle.std.specs.Prelude.{◌<ℤ◌, ◌≤ℤ◌, true}
+use Rattle.qap_lines.specs.Bound.{IsBoundFor}
 use Rattle.subtree_search.specs.Best.{IsIncumbent}
+use Rattle.subtree_search.specs.Piece.{AreWhole}
 use Rattle.subtree_search.specs.Recorded.{HasBegun}
 use Rattle.subtree_search.proofs.proving.+proving.Given as goal
 
@@ -22,6 +24,8 @@ invariant-prove_children-loop-k g l = record {
   incumbent : IsIncumbent l.part.task.now.ground.now.instance.now l.incumbent;
   no_worse : l.incumbent.cost ≤ℤ l.fn.incumbent.cost;
   path : l.path ≡ l.fn.path;
-  begun : HasBegun l.part.task.now.ground.now.instance.now l.part.task.now.ground.now.duals.now l.fn.path l.level.form l.level.u.items l.split.line l.number l.k l.incumbent.cost (g.W.Record.ends l.split.marks) (g.W.Record.holds l.fn.proof)
+  begun : HasBegun l.part.task.now.ground.now.instance.now l.part.task.now.ground.now.duals.now l.fn.path l.level.form l.level.u.items l.split.line l.number l.k l.bound (g.W.Record.ends l.split.marks) (g.W.Record.holds l.fn.proof)
       (g.W.Record.holds l.proof);
+  bound : IsBoundFor l.incumbent.cost l.bound;
+  stopped : AreWhole l.fn.incumbent.cost l.part.pieces.now → l.bound <ℤ l.incumbent.cost → g.S.Stop.says l.part.task.now.stop.now true;
 }

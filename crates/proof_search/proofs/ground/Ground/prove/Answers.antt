@@ -6,12 +6,12 @@ use Rattle.subtree_search.specs.Recorded.{HasProof}
 use Rattle.proof_search.proofs.Showing.{AreLinesOf-recorded}
 use Rattle.proof_search.proofs.ground.Ground.prove.Goals as goal
 
-pub returns-then-branch-clause-lines : goal.returns-then-branch-clause-lines
-returns-then-branch-clause-lines g c =
+pub returns-clause-lines : goal.returns-clause-lines
+returns-clause-lines g c =
     let made = c.subtree-subtree.ensures in
     let I = c.subtree-subtree.result.instance.now in
     let y = c.subtree-subtree.result.node.now in
-    let cost = c.prove.new.incumbent.cost in
+    let bound = c.in_ok-bound.bound in
     let lines = c.prove.new.proof in
-    let recorded = subst (λ (l : List ℕ). HasProof I y cost (λ t. l ≡ t) (λ t. lines ≡ t)) c.new-tree.ensures (c.in_ok-prove.ensures.recorded c.if-branch.true) in
-    subst (λ (J : Problem). AreLinesOf J c.args.node.now cost lines) made.instance (subst (λ (z : Placement). AreLinesOf I z cost lines) made.node (AreLinesOf-recorded I y cost lines recorded))
+    let recorded = subst (λ (l : List ℕ). HasProof I y bound (λ t. l ≡ t) (λ t. lines ≡ t)) c.new-tree.ensures c.in_ok-bound.ensures.recorded in
+    subst (λ (J : Problem). AreLinesOf J c.args.node.now bound lines) made.instance (subst (λ (z : Placement). AreLinesOf I z bound lines) made.node (AreLinesOf-recorded I y bound lines recorded))

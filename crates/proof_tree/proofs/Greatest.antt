@@ -7,9 +7,9 @@ use Rattle.std.proofs.lemmas.Nat.{mul-le}
 use Rattle.qap_cost.proofs.Sums.{*ℤ-+ℤ}
 use Rattle.pair_duals.proofs.Products.{scale-assoc}
 use Rattle.proof_tree.proofs.Multiples.{reaches-greatest}
+use Rattle.proof_tree.proofs.Remainders.{IsRemainder-euclid}
 use Rattle.proof_tree.specs.Leaves.{IsGreatest}
 use Rattle.proof_tree.specs.Valid.{ReachesBound}
-use Rattle.proof_check.proofs.Multiples.{IsRemainder-euclid}
 
 -- the greatest multiple of a unit that is at most a number is this many units
 pub record IsQuotient (unit : ℕ) (z times : ℤ) : Type 0 where
