@@ -17,7 +17,7 @@ use qap_cost::{Instance, Partial, Perm};
 use qap_symmetry::{Table, symmetries_of};
 use std::alloc::{AllocError, Global};
 use std::marker::Model;
-use subtree_search::{Incumbent, Piece, Stop, Subtree, SubtreeSearch, TextRecord};
+use subtree_search::{Incumbent, Piece, Silent, Stop, Subtree, SubtreeSearch, TextRecord};
 
 /// An instance with the symmetries of its matrices, its cost step, a number of 64 bits that divides that, and the scale of pair duals. It
 /// is seen as the instance.
@@ -123,7 +123,7 @@ impl Ground {
         ensures no_worse { incumbent.new.cost ≤ℤ incumbent.old.cost }
     {
         let subtree = self.subtree(node, duals);
-        let children = search.split(&subtree, incumbent, &AtOnce)?;
+        let children = search.split(&subtree, incumbent, &AtOnce, &mut Silent)?;
         let mut nodes = Vec::with_capacity(alloc, children.len())?;
         for i in 0..children.len() {
             nodes.push(node.place(children[i].facility, children[i].location)?)?;

@@ -28,4 +28,4 @@ pub use record::{Record, Silent};
 pub use search::{Subtree, SubtreeSearch};
 pub use split::OpenChild;
 pub use stop::{Never, Stop};
-pub use text_record::TextRecord;
+pub use text_record::{Hole, TextRecord};
