@@ -14,6 +14,7 @@ use crate::answer::{Answer, answer_of};
 use crate::board::Board;
 use crate::offers::Offers;
 use crate::opening::{LEAST_COST, opening_space};
+use crate::pieces::Pieces;
 use crate::schedule::Task;
 use crate::seat::{Seat, Workplace};
 use crate::tuples::node_template;
@@ -64,18 +65,19 @@ pub struct Crew {
 /// The calling thread keeps the space: it advances the moment by the clock, and closes the space when no node is open,
 /// when every worker has left, and when the task's watch requests it. Only that thread consults the watch, and reports
 /// to it how far the search has come. The workers ask for what is found elsewhere; of that they take up what completes the
-/// root and costs less, and the answer has it once they commit. The only error is out of memory.
+/// root and costs less, and the answer has it once they commit. They hand on the text of each node that was split by pair duals,
+/// once the commit was accepted that replaces it, if that is requested. The only error is out of memory.
 pub fn solve<R, S, O>(
     rt: &R,
     alloc: Global,
     task: &Task<'_, S>,
     crew: Crew,
-    offers: &O,
+    beside: &O,
 ) -> Result<Answer, AllocError>
 where
     R: Threads + Wait + time::Clock + Sync,
     S: Watch,
-    O: Offers + Sync,
+    O: Offers + Pieces + Sync,
     requires some { 0 < crew.workers }
     requires few { crew.workers ≤ 64 }
     requires same_size { task.now.root.now.size ≡ (arc_value task.now.ground.now).size }
@@ -83,7 +85,7 @@ where
     ensures answer { IfOk result (IsAnswer (part_from (arc_value task.now.ground.now) task.now.root.now task.now.start.now)) }
     ensures limit { IfOk result (λ a. IsWithin crew.limit a.nodes) }
 {
-    let space = run_of(rt, alloc, task, crew, offers)?;
+    let space = run_of(rt, alloc, task, crew, beside)?;
     let answer = answer_of(alloc, task.ground.instance(), space)?;
     Ok(answer)
 }
@@ -94,12 +96,12 @@ fn run_of<R, S, O>(
     alloc: Global,
     task: &Task<'_, S>,
     crew: Crew,
-    offers: &O,
+    beside: &O,
 ) -> Result<TxnSpace, AllocError>
 where
     R: Threads + Wait + time::Clock + Sync,
     S: Watch,
-    O: Offers + Sync,
+    O: Offers + Pieces + Sync,
     requires some { 0 < crew.workers }
     requires few { crew.workers ≤ 64 }
     requires same_size { task.now.root.now.size ≡ (arc_value task.now.ground.now).size }
@@ -111,7 +113,7 @@ where
     let start = Incumbent::new(instance, task.start.copy()?);
     let space = opening_space(alloc, instance, task.root, &start)?;
     let blank = Blank::new(u64::from(crew.workers));
-    let left = search::<Brand, R, S, O>(rt, alloc, task, space, blank, crew, offers)?;
+    let left = search::<Brand, R, S, O>(rt, alloc, task, space, blank, crew, beside)?;
     Ok(left)
 }
 
@@ -123,13 +125,13 @@ fn search<L, R, S, O>(
     space: TxnSpace,
     blank: Blank,
     crew: Crew,
-    offers: &O,
+    beside: &O,
 ) -> Result<TxnSpace, AllocError>
 where
     L: Law + Send + Sync,
     R: Threads + Wait + time::Clock + Sync,
     S: Watch,
-    O: Offers + Sync,
+    O: Offers + Pieces + Sync,
     requires some { 0 < crew.workers }
     requires blank { IsBlankFor L.name L.parts blank crew.workers }
     requires start { length task.now.start.now ≡ (arc_value task.now.ground.now).size }
@@ -166,7 +168,7 @@ where
         board: &board,
         order: crew.order,
         values: &values,
-        offers,
+        beside,
     };
     work_all(&place, &seats, task.stop);
     let shares = shares_of(room, seats);
@@ -206,7 +208,7 @@ where
     R: Threads + Wait + time::Clock + Sync,
     L: Law + Send + Sync,
     S: Watch,
-    O: Offers + Sync,
+    O: Offers + Pieces + Sync,
 {
     thread::scope(thread::scope_env(), place.rt, |scope| {
         for seat in seats {
@@ -223,7 +225,7 @@ fn work<R, L, O>(place: &Workplace<'_, R, L, O>, seat: &Mutex<Seat<L>>)
 where
     R: Wait + time::Clock,
     L: Law,
-    O: Offers,
+    O: Offers + Pieces,
 {
     let mut seat = seat.lock(place.rt);
     seat.work(place);
