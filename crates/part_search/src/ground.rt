@@ -10,7 +10,7 @@ ghost use Rattle.subtree_search.specs.Opens.{IsOpen, IsSettled, node_of};
 ghost use Rattle.part_search.specs.Ground.{IsChildValue, IsFreeChild, IsKnown, IsParent, IsSplitter, StandFor};
 ghost use Rattle.part_search.specs.Tuples.{open_of};
 
-use crate::aid::Aid;
+use crate::aid::{Aid, Alone};
 use crate::open_node::Open;
 use dual_ascent::{Effort, ascend_softly, has_range};
 use gilmore_lawler::RankedInstance;
@@ -21,7 +21,7 @@ use qap_symmetry::{Table, symmetries_of};
 use std::alloc::{AllocError, Global};
 use std::marker::Model;
 use std::sync::Arc;
-use subtree_search::{Incumbent, OpenChild, Record, Subtree, SubtreeSearch};
+use subtree_search::{Incumbent, Never, OpenChild, Record, Subtree, SubtreeSearch, TextRecord};
 
 /// An instance with the symmetries of its matrices, and the bounds by which its nodes are split. It is seen as the instance.
 #[derive(Drop)]
@@ -166,6 +166,32 @@ impl Ground {
                 split_by_rows(alloc, &parent, ranked, &mut splitter.rows, incumbent, aid)
             }
         }
+    }
+
+    /// Records a node as a leaf that is left open, if nodes are split by pair duals.
+    pub(crate) fn leave(
+        &self,
+        alloc: Global,
+        node: &Partial,
+        incumbent: &Incumbent,
+        record: &mut TextRecord,
+    ) -> Result<(), AllocError>
+        requires { node.now.size ≡ self.now.size }
+    {
+        let Bounds::Duals(known) = &self.bounds else {
+            return Ok(());
+        };
+        let aid = Alone(&Never);
+        let duals = duals_at(alloc, &self.instance, node, known, &aid)?;
+        let subtree = Subtree {
+            instance: &self.instance,
+            node,
+            duals: &duals,
+            step: known.step,
+            flows: &self.flows,
+            distances: &self.distances,
+        };
+        SubtreeSearch::new(alloc).leave(&subtree, incumbent, record)
     }
 }
 

@@ -32,7 +32,7 @@ use std::sync::{Mutex, Wait};
 use std::thread::Threads;
 use std::time::{Duration, Instant};
 use std::{thread, time};
-use subtree_search::Incumbent;
+use subtree_search::{Incumbent, TextRecord};
 use tuple_match::Template;
 
 /// Which open node a worker takes next.
@@ -111,10 +111,30 @@ where
 {
     let instance = task.ground.instance();
     let start = Incumbent::new(instance, task.start.copy()?);
+    if beside.are_kept() {
+        hand_on_root(alloc, task, &start, beside)?;
+    }
     let space = opening_space(alloc, instance, task.root, &start)?;
     let blank = Blank::new(u64::from(crew.workers));
     let left = search::<Brand, R, S, O>(rt, alloc, task, space, blank, crew, beside)?;
     Ok(left)
+}
+
+/// Hands on a text of the root as a leaf that is left open: it stands for the tree until the root is split.
+fn hand_on_root<S, O: Pieces>(
+    alloc: Global,
+    task: &Task<'_, S>,
+    start: &Incumbent,
+    beside: &O,
+) -> Result<(), AllocError>
+    requires { task.now.root.now.size ≡ (arc_value task.now.ground.now).size }
+{
+    let mut record = TextRecord::new(alloc);
+    task.ground.leave(alloc, task.root, start, &mut record)?;
+    if !record.text().is_empty() {
+        beside.keep(task.root, &record);
+    }
+    Ok(())
 }
 
 /// The same, on a space that is at the opening, under a law that is the search's.

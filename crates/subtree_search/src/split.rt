@@ -98,6 +98,54 @@ impl SubtreeSearch {
         take_back(&mut self.residuals, kept);
         Ok(children)
     }
+
+    /// Adds a tree over a node to the record that is one leaf, which is left open: advice, as above.
+    pub fn leave<W: Record>(
+        &mut self,
+        subtree: &Subtree<'_>,
+        incumbent: &Incumbent,
+        proof: &mut W,
+    ) -> Result<(), AllocError>
+        requires size { subtree.now.instance.now.size ≡ subtree.now.node.now.size }
+        requires duals { AreOf subtree.now.node.now subtree.now.duals.now }
+        requires in_scale { IsInScale limits_of_64 subtree.now.instance.now subtree.now.duals.now.scale }
+        requires fit { Fit subtree.now.instance.now subtree.now.duals.now }
+        requires step { subtree.now.step ≡ pos (step_of subtree.now.instance.now) }
+    {
+        make_room(&mut self.levels, &mut self.size, subtree.duals.free())?;
+        let ground = Ground {
+            instance: subtree.instance,
+            duals: subtree.duals,
+            step: step_within(subtree.step),
+            flows: subtree.flows,
+            distances: subtree.distances,
+            kept: None,
+        };
+        let (levels, path) = (&mut self.levels, &mut self.path);
+        leave_node(&ground, subtree.node, levels, path, incumbent, proof)
+    }
+}
+
+/// Records the node that the pair duals belong to as a leaf that is left open.
+fn leave_node<W: Record>(
+    ground: &Ground<'_>,
+    node: &Partial,
+    levels: &mut [Level],
+    path: &mut Path,
+    incumbent: &Incumbent,
+    proof: &mut W,
+) -> Result<(), AllocError>
+    requires size { ground.now.instance.now.size ≡ node.now.size }
+    requires duals { AreOf node.now ground.now.duals.now }
+    requires sound { AreSound ground.now.instance.now ground.now.duals.now ground.now.step }
+    requires room { 0 < length levels.old }
+{
+    let level = &mut levels[0];
+    ground.begin(node, level, path)?;
+    level.draw_line(ground.threshold(incumbent))?;
+    let bound = ground.bound_of(level).min(incumbent.cost());
+    proof.pair_duals(ground.duals)?;
+    proof.leave(None, bound, level.u())
 }
 
 /// Splits the node that the pair duals belong to.
@@ -224,7 +272,7 @@ fn record_open<W: Record>(
 {
     if let Some(child) = child {
         let bound = ground.bound_of(level).min(incumbent.cost());
-        proof.leave(child, bound, level.u())?;
+        proof.leave(Some((child.facility, child.location)), bound, level.u())?;
     }
     Ok(())
 }
