@@ -11,8 +11,8 @@ use subtree_search::{Incumbent, Never};
 
 /// Offers permutations that are found elsewhere while a search goes on.
 pub trait Offers {
-    /// A permutation found elsewhere, if there is one that costs less than this. Each worker asks for one between its rounds,
-    /// outside the lock of the space, with the cost of its incumbent, and goes on once it has the answer.
+    /// A permutation found elsewhere, if there is one that costs less than this. Each worker asks for one between its
+    /// rounds, outside the lock of the space, with the cost of its incumbent, and goes on once it has the answer.
     fn offered(&self, cost: i128) -> Option<Perm>;
 }
 
@@ -22,7 +22,8 @@ impl Offers for Never {
     }
 }
 
-/// Takes up a permutation found elsewhere if it is one of the instance, completes the root, and costs less than the incumbent.
+/// Takes up a permutation found elsewhere if it is one of the instance, completes the root, and costs less than the
+/// incumbent.
 pub(crate) fn take_up(instance: &Instance, root: &Partial, incumbent: &mut Incumbent, offered: Perm)
     requires incumbent { IsIncumbent instance.now incumbent.old }
     ensures incumbent { IsIncumbent instance.now incumbent.new }
@@ -33,9 +34,10 @@ pub(crate) fn take_up(instance: &Instance, root: &Partial, incumbent: &mut Incum
     if offered.len() != instance.size() || offered.len() != root.size() {
         return;
     }
-    if completes(root, &offered) {
-        keep_better(incumbent, Incumbent::new(instance, offered));
+    if !completes(root, &offered) {
+        return;
     }
+    keep_better(incumbent, Incumbent::new(instance, offered));
 }
 
 /// Whether a permutation of the root's size puts each facility that the root places at its location.

@@ -25,10 +25,10 @@ use tuple_match::Template;
 /// How many steps a worker makes at most until it has no transaction, if there is memory.
 const STEPS_TO_IDLE: usize = 3;
 
-/// What workers share: the space, the node below which they search, what they wait for there, how many wait, whether the
-/// search should stop, how many nodes were taken and tried, when children are left open untried, what they know of open nodes,
-/// which they take first, the values of the nodes that they have yet to decide, and what offers permutations and takes pieces of
-/// a proof.
+/// What workers share: the space, the node below which they search, what they wait for there, how many wait, whether
+/// the search should stop, how many nodes were taken and tried, when children are left open untried, what they know of
+/// open nodes, which they take first, the values of the nodes that they have yet to decide, and what offers
+/// permutations and takes pieces of a proof.
 #[derive(Drop)]
 pub(crate) struct Workplace<'a, R: Wait + time::Clock, L: Law, O> {
     pub(crate) rt: &'a R,

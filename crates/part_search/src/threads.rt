@@ -64,9 +64,9 @@ pub struct Crew {
 ///
 /// The calling thread keeps the space: it advances the moment by the clock, and closes the space when no node is open,
 /// when every worker has left, and when the task's watch requests it. Only that thread consults the watch, and reports
-/// to it how far the search has come. The workers ask for what is found elsewhere; of that they take up what completes the
-/// root and costs less, and the answer has it once they commit. They hand on the text of each node that was split by pair duals,
-/// once the commit was accepted that replaces it, if that is requested. The only error is out of memory.
+/// to it how far the search has come. The workers ask for what is found elsewhere; of that they take up what completes
+/// the root and costs less, and the answer has it once they commit. They hand on the text of each node that was split
+/// by pair duals, once the commit was accepted that replaces it, if that is requested. The only error is out of memory.
 pub fn solve<R, S, O>(
     rt: &R,
     alloc: Global,

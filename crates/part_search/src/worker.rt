@@ -107,8 +107,8 @@ impl Worker {
         })
     }
 
-    /// Takes up a permutation found elsewhere, if it completes the root and costs less than the best one that it knows; its next
-    /// commit writes it.
+    /// Takes up a permutation found elsewhere, if it completes the root and costs less than the best one that it knows;
+    /// its next commit writes it.
     pub(crate) fn consider(&mut self, root: &Partial, offered: Perm)
         ensures { self.new ≡ self.old }
     {

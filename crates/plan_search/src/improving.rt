@@ -1,5 +1,5 @@
-//! Improves a permutation by tabu searches before the search for a proof begins: some in turn, and, where the proof is to be
-//! assembled under a time limit, several more side by side for a part of the time.
+//! Improves a permutation by tabu searches before the search for a proof begins: some in turn, and, where the proof is
+//! to be assembled under a time limit, several more side by side for a part of the time.
 
 ghost use Rattle.std.specs.Prelude.{IfOk, false, length, true, ◌≡◌, ◌≤ℤ◌};
 ghost use Rattle.qap_cost.specs.Objective.{Permutes, cost_of};
@@ -77,6 +77,9 @@ fn improved_in_turn<H: Hook>(
 {
     let mut best = start;
     for round in 0..options.searches_in_turn(node) {
+        if !hook.goes_on(cost(instance, &best)) {
+            break;
+        }
         let plan = plan_in_turn(node, options.seed, round);
         best = improved_keeping(alloc, instance, node, &best, &plan, hook)?.permutation;
     }

@@ -45,6 +45,11 @@ impl<'a, K: Keeper> WithinMemory<'a, K> {
         }
     }
 
+    /// How many milliseconds ago the run began.
+    pub fn now(&self) -> u64 {
+        self.keeper.now()
+    }
+
     /// Whether the search is to stop.
     pub fn is_wanted(&self) -> bool {
         self.is_passed.get() || self.keeper.is_wanted()

@@ -37,6 +37,9 @@ const LEAST_UNPROVED: u64 = 40;
 /// For how many milliseconds tabu searches continue for each square of a number of facilities above the largest easy one.
 const MS_PER_SQUARE: u64 = 10;
 
+/// About how many entries of the pair duals of a root are found in a millisecond.
+const ENTRIES_PER_MS: u64 = 500;
+
 /// For how many milliseconds a worker tries the children of the node that it took.
 const TURN_MS: u64 = 1000;
 
@@ -62,8 +65,8 @@ pub struct Options {
 }
 
 impl Options {
-    /// The workers of a search below a root, and its limit. Under a time limit they take the open node with the least value first,
-    /// so that the bound rises.
+    /// The workers of a search below a root, and its limit. Under a time limit they take the open node with the least
+    /// value first, so that the bound rises.
     pub fn crew(&self, root: &Partial) -> Crew
         requires { AreLimited self.now }
         ensures some { 0 < result.workers }
@@ -83,8 +86,8 @@ impl Options {
         }
     }
 
-    /// How many threads make tabu searches beside the other workers: under a time limit one of several, and from 40 free facilities
-    /// on all but one.
+    /// How many threads make tabu searches beside the other workers: under a time limit one of several, and from 40
+    /// free facilities on all but one.
     pub fn tabu_threads(&self, root: &Partial) -> u16
         requires { AreLimited self.now }
         ensures { result < self.now.workers }
@@ -98,7 +101,8 @@ impl Options {
         }
     }
 
-    /// How many milliseconds the first turn of tabu searches takes where a single worker is under a time limit: a tenth of that.
+    /// How many milliseconds the first turn of tabu searches takes where a single worker is under a time limit: a tenth
+    /// of that.
     pub fn first_turn_ms(&self, root: &Partial) -> Option<u64> {
         if self.workers < 2 && self.has_tabu_beside(root) {
             Some(self.milliseconds? / 10)
@@ -107,8 +111,8 @@ impl Options {
         }
     }
 
-    /// Whether tabu searches go on beside a search: under a time limit, unless a number of iterations is given, the proof is to be
-    /// assembled, or few facilities are free.
+    /// Whether tabu searches go on beside a search: under a time limit, unless a number of iterations is given, the
+    /// proof is to be assembled, or few facilities are free.
     fn has_tabu_beside(&self, root: &Partial) -> bool {
         self.milliseconds.is_some()
             && self.improve.is_none()
@@ -134,9 +138,10 @@ impl Options {
         }
     }
 
-    /// Until how many milliseconds after the beginning of the run tabu searches continue side by side after these: where the
-    /// proof is to be assembled and no number of iterations is given, for a part of the time limit that grows with the number of
-    /// facilities that the root leaves free. From 37 on, where a proof is rarely in reach, that is three quarters of it.
+    /// Until how many milliseconds after the beginning of the run tabu searches continue side by side after these:
+    /// where the proof is to be assembled and no number of iterations is given, for a part of the time limit that grows
+    /// with the number of facilities that the root leaves free. From 37 on, where a proof is rarely in reach, that is
+    /// three quarters of it.
     pub fn improving_until(&self, root: &Partial) -> Option<u64> {
         let limit = self.milliseconds?;
         let free = free_in(root);
@@ -149,6 +154,19 @@ impl Options {
         let over = free.saturating_sub(LARGEST_EASY);
         let square = over.saturating_mul(over);
         Some((limit / 10).min(square.saturating_mul(MS_PER_SQUARE)))
+    }
+
+    /// Whether pair duals of a root will probably be found within the time limit, by a search for them that begins this
+    /// many milliseconds after the run. It takes time with the fourth power of the number of free facilities, and is not
+    /// interrupted.
+    pub fn has_time_for_duals(&self, root: &Partial, now: u64) -> bool {
+        let Some(limit) = self.milliseconds else {
+            return true;
+        };
+        let free = free_in(root);
+        let square = free.saturating_mul(free);
+        let entries = square.saturating_mul(square);
+        now.saturating_add(entries / ENTRIES_PER_MS) <= limit
     }
 
     /// How many bytes of memory the program may have while it searches.

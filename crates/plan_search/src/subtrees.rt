@@ -46,8 +46,8 @@ const EASY_NODES: u64 = 500;
 /// In how many rounds of the thread that keeps the space the progress is shown once.
 const ROUNDS_PER_LOOK: u32 = 128;
 
-/// Searches below a root from a permutation on, to the end or until a limit is reached or a stop is requested. Under a time limit
-/// tabu searches go on beside it for the whole time; the best permutation that they find counts too.
+/// Searches below a root from a permutation on, to the end or until a limit is reached or a stop is requested. Under a
+/// time limit tabu searches go on beside it for the whole time; the best permutation that they find counts too.
 pub(crate) fn search_subtrees<T, K>(
     system: &T,
     alloc: Global,
@@ -147,7 +147,8 @@ where
         return Ok(found);
     }
     let scale = scale_for(cost(instance, start));
-    let ground = ground_for(alloc, instance, root, options, scale)?;
+    let now = watcher.within.now();
+    let ground = ground_for(alloc, instance, root, options, scale, now)?;
     let task = Task {
         ground: &ground,
         root,
@@ -280,20 +281,23 @@ pub(crate) fn has_few_free(root: &Partial) -> bool {
     free_in(root) <= MAX_FREE
 }
 
-/// What the workers share of the instance: for bounds under pair duals of this scale, or for those of Gilmore and Lawler if a
-/// number is out of range, many facilities are free, or a number of nodes is the limit.
+/// What the workers share of the instance: for bounds under pair duals of this scale, or for those of Gilmore and
+/// Lawler if a number is out of range, many facilities are free, a number of nodes is the limit, or the time limit is
+/// too close this many milliseconds after the beginning of the run.
 fn ground_for(
     alloc: Global,
     instance: &Instance,
     root: &Partial,
     options: &Options,
     scale: u32,
+    now: u64,
 ) -> Result<Arc<Ground>, AllocError>
     requires { root.now.size ≡ instance.now.size }
     ensures { IfOk result (λ h. arc_value h ≡ instance.now) }
 {
     if has_few_free(root)
         && options.nodes.is_none()
+        && options.has_time_for_duals(root, now)
         && let Some(ground) = Ground::new(alloc, instance, root, scale, &Effort::root())?
     {
         return Ok(Arc::new(alloc, ground)?);

@@ -18,8 +18,8 @@ const ITERATIONS: u64 = 2_000;
 /// For how many milliseconds at least a single worker goes on before tabu searches have their next turn.
 const TURN_MS: u64 = 1_000;
 
-/// Tabu searches from a permutation that completes a node, and the best permutation that they have found: advice, which is
-/// checked where it is used.
+/// Tabu searches from a permutation that completes a node, and the best permutation that they have found: advice, which
+/// is checked where it is used.
 #[derive(Drop)]
 pub(crate) struct Tabu<'a, T> {
     system: &'a T,
@@ -88,8 +88,8 @@ impl<'a, T: Wait + time::Clock> Tabu<'a, T> {
         self.best.lock(self.system).permutation().copy()
     }
 
-    /// An iterated tabu search (Misevicius 2004), until it is halted or memory runs out: after some iterations it begins again from
-    /// exchanges at random.
+    /// An iterated tabu search (Misevicius 2004), until it is halted or memory runs out: after some iterations it
+    /// begins again from exchanges at random.
     pub(crate) fn search(&self, number: u16) {
         let Ok(mut here) = self.start.copy() else {
             return;
@@ -105,8 +105,8 @@ impl<'a, T: Wait + time::Clock> Tabu<'a, T> {
         }
     }
 
-    /// Where a search begins again after one from here: one of an even number at the best permutation of all, another one where
-    /// it has come.
+    /// Where a search begins again after one from here: one of an even number at the best permutation of all, another
+    /// one where it has come.
     fn next_from(&self, here: &Perm, number: u16) -> Result<Perm, AllocError> {
         let found = self.searched_from(here, None)?;
         if number % 2 == 0 {
@@ -186,8 +186,8 @@ impl<'a, T: Wait + time::Clock> Tabu<'a, T> {
         }
     }
 
-    /// When their turn ends if it is their turn: after the first part of the time, and later after as long as the worker has gone
-    /// on since their last turn, once that is a second.
+    /// When their turn ends if it is their turn: after the first part of the time, and later after as long as the
+    /// worker has gone on since their last turn, once that is a second.
     fn turn_end(&self) -> Option<u64> {
         let first_ms = self.first_ms?;
         let now = self.now()?;
