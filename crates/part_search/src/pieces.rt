@@ -8,9 +8,12 @@ pub trait Pieces {
     /// Whether it takes them. Otherwise none are written.
     fn are_kept(&self) -> bool;
 
-    /// Takes the text of a tree over a node, whose open children are leaves, once the commit was accepted that replaces the node by
-    /// these. A worker calls it outside the locks of the search, and goes on once it has returned.
+    /// Takes the text of a tree over a node, whose open children are leaves, once the commit was accepted that replaces
+    /// the node by these. A worker calls it outside the locks of the search, and goes on once it has returned.
     fn keep(&self, node: &Partial, piece: &TextRecord);
+
+    /// Whether a piece could not be kept, so that the search need not go on for the sake of its proof.
+    fn have_failed(&self) -> bool;
 }
 
 impl Pieces for Never {
@@ -19,4 +22,8 @@ impl Pieces for Never {
     }
 
     fn keep(&self, _node: &Partial, _piece: &TextRecord) {}
+
+    fn have_failed(&self) -> bool {
+        false
+    }
 }

@@ -2,7 +2,6 @@
 
 ghost use Rattle.std.specs.Prelude.{length, ◌≡◌};
 
-use part_search::Offers;
 use plan_file::{completed, improved_keeping};
 use qap_cost::{Instance, Partial, Perm};
 use qap_improve::{Hook, TabuPlan};
@@ -186,6 +185,18 @@ impl<'a, T: Wait + time::Clock> Tabu<'a, T> {
         }
     }
 
+    /// The best permutation so far, if it costs less than this; if it is their turn, they take that first.
+    pub(crate) fn offered(&self, cost: i128) -> Option<Perm> {
+        if let Some(end) = self.turn_end() {
+            self.take_turn(end);
+        }
+        if self.cost() < cost {
+            self.best().ok()
+        } else {
+            None
+        }
+    }
+
     /// When their turn ends if it is their turn: after the first part of the time, and later after as long as the
     /// worker has gone on since their last turn, once that is a second.
     fn turn_end(&self) -> Option<u64> {
@@ -200,19 +211,6 @@ impl<'a, T: Wait + time::Clock> Tabu<'a, T> {
             None
         } else {
             Some(now.saturating_add(passed))
-        }
-    }
-}
-
-impl<T: Wait + time::Clock> Offers for Tabu<'_, T> {
-    fn offered(&self, cost: i128) -> Option<Perm> {
-        if let Some(end) = self.turn_end() {
-            self.take_turn(end);
-        }
-        if self.cost() < cost {
-            self.best().ok()
-        } else {
-            None
         }
     }
 }

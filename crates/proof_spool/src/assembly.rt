@@ -11,10 +11,10 @@ const CAPACITY: usize = 1 << 18;
 const END: &[u8] = b"end\n";
 
 /// Yields the lines before the tree of a proof, its tree, and its last line.
-pub type Assembly<F> = BufReader<Chain<Chain<Cursor<Vec<u8>>, Tree<F>>, &'static [u8]>>;
+pub(crate) type Assembly<F> = BufReader<Chain<Chain<Cursor<Vec<u8>>, Tree<F>>, &'static [u8]>>;
 
 /// The text of a proof with these lines before its tree.
-pub fn assembly<F: Read + Seek + Drop>(
+pub(crate) fn assembly<F: Read + Seek + Drop>(
     alloc: Global,
     front: Vec<u8>,
     tree: Tree<F>,

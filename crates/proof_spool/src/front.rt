@@ -1,21 +1,16 @@
 //! The lines of a proof before its tree.
 
-use qap_cost::{Partial, Perm};
+use crate::writing::Claim;
+use qap_cost::Partial;
 use qap_io::Counted;
 use qap_lines::{WriteError, begin_line, write_head, write_one, write_text};
 use qap_proof::text_of_node;
 use std::alloc::{AllocError, Global};
 
-/// The lines before the tree of a proof with pair duals over this root, which states this permutation and its cost, and this bound.
-pub fn front_text(
-    alloc: Global,
-    root: &Partial,
-    permutation: &Perm,
-    cost: i128,
-    bound: i128,
-) -> Result<Vec<u8>, AllocError> {
+/// The lines before the tree of a proof with pair duals that states this.
+pub(crate) fn front_text(alloc: Global, claim: &Claim<'_>) -> Result<Vec<u8>, AllocError> {
     let mut text = Counted::new(Vec::new(alloc));
-    match write_front(alloc, &mut text, root, permutation, cost, bound) {
+    match write_front(alloc, &mut text, claim) {
         Ok(()) => Ok(text.into_inner()),
         // Nothing but want of memory keeps a text from a vector.
         Err(_) => Err(AllocError),
@@ -25,19 +20,16 @@ pub fn front_text(
 fn write_front(
     alloc: Global,
     text: &mut Counted<Vec<u8>>,
-    root: &Partial,
-    permutation: &Perm,
-    cost: i128,
-    bound: i128,
+    claim: &Claim<'_>,
 ) -> Result<(), WriteError> {
     let mut line = Vec::new(alloc);
-    write_head(text, &mut line, b"qapproof", 2, cost, permutation)?;
-    if root.depth() > 0 {
-        make_root(alloc, &mut line, root)?;
+    write_head(text, &mut line, b"qapproof", 2, claim.cost, claim.permutation)?;
+    if claim.root.depth() > 0 {
+        make_root(alloc, &mut line, claim.root)?;
         write_text(text, &line)?;
     }
-    if bound < cost {
-        write_one(text, &mut line, b"bound", bound)?;
+    if claim.bound < claim.cost {
+        write_one(text, &mut line, b"bound", claim.bound)?;
     }
     Ok(())
 }

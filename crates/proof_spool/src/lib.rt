@@ -1,4 +1,4 @@
-//! Keeps the texts of the nodes that a search splits in one file, and yields the text of the tree that they make up.
+//! Keeps the texts of the nodes that a search splits in one file, and writes the text of the proof that they make up, checked.
 #![tactic(auto)]
 
 mod assembly;
@@ -7,9 +7,9 @@ mod piece;
 mod shared;
 mod spool;
 mod tree;
+mod writing;
 
-pub use assembly::{Assembly, assembly};
-pub use front::front_text;
 pub use shared::SharedSpool;
 pub use spool::Spool;
 pub use tree::Tree;
+pub use writing::{Claim, write_checked};

@@ -24,4 +24,11 @@ impl<R: Wait, F: Write> Pieces for SharedSpool<'_, R, F> {
             spool.lock(self.rt).keep(node, piece);
         }
     }
+
+    fn have_failed(&self) -> bool {
+        match self.spool {
+            Some(spool) => spool.lock(self.rt).failure().is_some(),
+            None => false,
+        }
+    }
 }

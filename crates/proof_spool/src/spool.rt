@@ -97,8 +97,17 @@ impl<F: Write> Spool<F> {
             gaps,
         })?;
         self.length = self.length.saturating_add(length);
-        self.numbers.insert(key, number)?;
+        if let Some(earlier) = self.numbers.insert(key, number)? {
+            self.forget(earlier);
+        }
         Ok(())
+    }
+
+    /// Drops the leaves of a piece that another one replaces.
+    fn forget(&mut self, number: usize) {
+        if let Some(piece) = self.pieces.get_mut(number) {
+            piece.gaps.clear();
+        }
     }
 }
 

@@ -156,7 +156,7 @@ skim_lined-skim_split-requires g t c κs within =
     let long = said.marks in
     let spent : 7 * (y.size - length y.facilities) + 4 ≡ t = c.decreases in
     let smaller : 7 * (y.size - length y.facilities) + 3 < t = omega arith in
-    (smaller, (within, (c.requires.placement, (omega (arith, long, same, whole), said.marked))))
+    (smaller, (within.0, (within.1, (c.requires.placement, (omega (arith, long, same, whole), said.marked)))))
 
 pub skim_lined-returns-in-Split-clause-passed : goal.skim_lined-returns-in-Split-clause-passed
 skim_lined-returns-in-Split-clause-passed g t c =
@@ -344,7 +344,7 @@ skim_child-skim_below-requires g t c κs within =
     let h = c.cell-h.result.0 in
     let k = c.cell-h.result.1 in
     let cell : IsCellOf p h k = record { row = omega (arith, c.cell-h.ensures.row, cell_is.row); column = omega (arith, c.cell-h.ensures.column, cell_is.column) } in
-    (smaller, (within, subst IsPlacement (sym is) (IsPlacement-cell p h k at.placement cell)))
+    (smaller, (within.0, (within.1, subst IsPlacement (sym is) (IsPlacement-cell p h k at.placement cell))))
 
 pub skim_child-returns-clause-passed : goal.skim_child-returns-clause-passed
 skim_child-returns-clause-passed g t c =

@@ -319,12 +319,15 @@ walk_lined-walk_split-requires g t c κs within =
     let smaller : 7 * (y.size - length y.facilities) + 3 < t = omega arith in (
       smaller,
       (
-        within,
+        within.0,
         (
-          c.requires.size,
+          within.1,
           (
-            c.requires.placement,
-            (c.requires.judge, (c.requires.duals_size, (c.requires.in_scale, (c.in_ok-draw-in-Split.ensures.form I D y c.requires.placement c.requires.form, (omega (arith, long, same, whole), said.marked))))),
+            c.requires.size,
+            (
+              c.requires.placement,
+              (c.requires.judge, (c.requires.duals_size, (c.requires.in_scale, (c.in_ok-draw-in-Split.ensures.form I D y c.requires.placement c.requires.form, (omega (arith, long, same, whole), said.marked))))),
+            ),
           ),
         ),
       ),
@@ -590,20 +593,23 @@ walk_child-walk_below-requires g t c κs within =
     let parent = c.requires.parent in (
       smaller,
       (
-        within,
+        within.0,
         (
-          parent.size ∙ sym size,
+          within.1,
           (
-            subst IsPlacement (sym is) (IsPlacement-cell p h k parent.placement cell),
+            parent.size ∙ sym size,
             (
-              c.requires.judge,
+              subst IsPlacement (sym is) (IsPlacement-cell p h k parent.placement cell),
               (
-                parent.duals_size ∙ sym size,
+                c.requires.judge,
                 (
-                  parent.in_scale,
+                  parent.duals_size ∙ sym size,
                   (
-                    subst (λ (x : Placement). IsFormOf c.args.judge.now.instance.now q.duals.now x c.child.new.child) (sym is) (c.in_ok-child.ensures.form p parent.placement parent.form),
-                    c.in_ok-child.ensures.child.is_lined,
+                    parent.in_scale,
+                    (
+                      subst (λ (x : Placement). IsFormOf c.args.judge.now.instance.now q.duals.now x c.child.new.child) (sym is) (c.in_ok-child.ensures.form p parent.placement parent.form),
+                      c.in_ok-child.ensures.child.is_lined,
+                    ),
                   ),
                 ),
               ),
