@@ -157,7 +157,7 @@ impl Sink for Outputs<'_> {
         }
     }
 
-    fn put_from<X: Source>(&mut self, alloc: Global, name: &str, source: X) -> Status {
+    fn put_from<X: Source + Drop>(&mut self, alloc: Global, name: &str, source: X) -> Status {
         let begun = match self.take(name) {
             Ok(output) => output.begin(self.rt),
             Err(error) => return refuse_io(self.rt, name, &error),
@@ -221,7 +221,7 @@ enum Fault {
 }
 
 /// Writes a text to a file while it is made.
-fn fill<X: Source>(alloc: Global, file: File, source: X) -> Result<File, Fault> {
+fn fill<X: Source + Drop>(alloc: Global, file: File, source: X) -> Result<File, Fault> {
     let writer = match BufWriter::with_capacity(alloc, CAPACITY, Noting::new(file)) {
         Ok(writer) => writer,
         Err(error) => return Err(Fault::Writer(error)),

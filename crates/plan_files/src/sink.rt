@@ -37,7 +37,7 @@ pub trait Sink {
 
     /// Writes a text to the file of a name while it is made; the reason of a failure is reported on standard error, and
     /// what was in the place of a regular file stays there.
-    fn put_from<X: Source>(&mut self, alloc: Global, name: &str, source: X) -> Status
+    fn put_from<X: Source + Drop>(&mut self, alloc: Global, name: &str, source: X) -> Status
         ensures { EndsWith result ((text : List ℕ) × X.tells source text × writes self.old name.now text self.new) };
 
     /// A file for what is needed until the file of a name is written, which no name refers to. Why there is none is reported

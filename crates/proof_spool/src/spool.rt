@@ -35,19 +35,13 @@ impl<F> Spool<F> {
         }
     }
 
-    /// Why a piece could not be kept, if one could not.
-    pub fn failure(&self) -> Option<&io::Error> {
-        self.failure.as_ref()
+    /// Whether a piece could not be kept.
+    pub fn has_failed(&self) -> bool {
+        self.failure.is_some()
     }
 
-    /// Whether there is a piece over a node.
-    pub fn has(&self, node: &Partial) -> Result<bool, AllocError> {
-        let key = key_of(self.alloc, node)?;
-        Ok(self.numbers.contains_key(&key))
-    }
-
-    /// The tree of all pieces below that over a node; `None` if there is none over it.
-    pub fn into_tree(self, root: &Partial) -> Result<Option<Tree<F>>, AllocError>
+    /// The tree of all pieces below that over a node; `None` if there is none over it. If a piece could not be kept, it is why.
+    pub fn into_tree(self, root: &Partial) -> io::Result<Option<Tree<F>>>
     where
         F: Drop,
     {
@@ -57,8 +51,11 @@ impl<F> Spool<F> {
             length: _,
             numbers,
             mut pieces,
-            failure: _,
+            failure,
         } = self;
+        if let Some(error) = failure {
+            return Err(error);
+        }
         link(alloc, &numbers, &mut pieces)?;
         let key = key_of(alloc, root)?;
         match numbers.get(&key) {
