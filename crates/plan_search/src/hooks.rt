@@ -1,6 +1,6 @@
 //! What accompanies a search.
 
-use crate::tabu::Tabu;
+use crate::tabu::{Beside, Tabu};
 use part_search::{Offers, Pieces};
 use qap_cost::{Partial, Perm};
 use std::sync::Wait;
@@ -14,20 +14,30 @@ pub struct Hooks<'a, K, P> {
     pub pieces: &'a P,
 }
 
-/// What the workers of a search have beside them: tabu searches, and what takes the pieces of its proof.
+/// What a search has beside it: tabu searches, and what takes the pieces of its proof.
 #[derive(Drop)]
-pub(crate) struct Beside<'a, 't, T, P> {
+pub(crate) struct WithPieces<'a, 't, T, P> {
     pub(crate) tabu: &'a Tabu<'t, T>,
     pub(crate) pieces: &'a P,
 }
 
-impl<T: Wait + time::Clock, P> Offers for Beside<'_, '_, T, P> {
+impl<T: Wait + time::Clock, P> Offers for WithPieces<'_, '_, T, P> {
     fn offered(&self, cost: i128) -> Option<Perm> {
         self.tabu.offered(cost)
     }
 }
 
-impl<T, P: Pieces> Pieces for Beside<'_, '_, T, P> {
+impl<T: Wait + time::Clock, P> Beside for WithPieces<'_, '_, T, P> {
+    fn search(&self, number: u16) {
+        self.tabu.search(number);
+    }
+
+    fn halt(&self) {
+        self.tabu.halt();
+    }
+}
+
+impl<T, P: Pieces> Pieces for WithPieces<'_, '_, T, P> {
     fn are_kept(&self) -> bool {
         self.pieces.are_kept()
     }

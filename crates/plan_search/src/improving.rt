@@ -7,7 +7,7 @@ ghost use Rattle.qap_cost.specs.Placement.{Completes};
 
 use crate::keeper::Keeper;
 use crate::options::{Options, free_in};
-use crate::tabu::Tabu;
+use crate::tabu::{Beside, Tabu};
 use plan_file::{completes, improved_keeping};
 use qap_cost::{Instance, Partial, Perm, cost};
 use qap_improve::{Hook, TabuPlan};

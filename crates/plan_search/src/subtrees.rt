@@ -8,13 +8,13 @@ ghost use Rattle.subtree_search.specs.Closed.{IsClosed};
 ghost use Rattle.plan_search.specs.Keeping.{IsSearched};
 ghost use Rattle.plan_search.specs.Options.{AreLimited};
 
-use crate::hooks::{Beside, Hooks};
+use crate::hooks::{Hooks, WithPieces};
 use crate::improving::is_better;
 use crate::keeper::{Keeper, Progress};
 use crate::memory_limit::WithinMemory;
 use crate::options::{Options, has_few_free};
 use crate::planning::Planned;
-use crate::tabu::Tabu;
+use crate::tabu::{Beside, Tabu};
 use dual_ascent::{Effort, has_range};
 use gilmore_lawler::RankedInstance;
 use node_split::NodeSplit;
@@ -66,38 +66,42 @@ where
 {
     let first_ms = options.first_turn_ms(root);
     let tabu = Tabu::new(system, alloc, instance, root, start, options.seed)?.with_turns(first_ms);
-    let watcher = Watcher {
-        within: WithinMemory::new(hooks.keeper, options.allowed_bytes()),
+    let others = WithPieces {
         tabu: &tabu,
         pieces: hooks.pieces,
+    };
+    let watcher = Watcher {
+        within: WithinMemory::new(hooks.keeper, options.allowed_bytes()),
+        others: &others,
         looks: Cell::new(0),
     };
-    let found = searched_beside(system, alloc, instance, root, start, options, &watcher)?;
+    let beside = (&watcher, &others);
+    let found = searched_beside(system, alloc, instance, root, start, options, beside)?;
     let best = tabu.best()?;
     Ok(with_better(instance, root, found, best))
 }
 
-/// What a search by workers yields, beside which tabu searches go on in threads of their own until it ends.
-fn searched_beside<T, K, P>(
+/// What a search by workers yields, beside which other searches go on in threads of their own until it ends.
+fn searched_beside<T, S, O>(
     system: &T,
     alloc: Global,
     instance: &Instance,
     root: &Partial,
     start: &Perm,
     options: &Options,
-    watcher: &Watcher<'_, '_, '_, T, K, P>,
+    beside: (&S, &O),
 ) -> Result<Planned, AllocError>
 where
     T: Threads + Wait + time::Clock + Sync,
-    K: Keeper,
-    P: Pieces + Sync,
+    S: TimedWatch,
+    O: Beside + Pieces + Sync,
     requires limited { AreLimited options.now }
     requires start { Permutes instance.now start.now }
     requires same_size { root.now.size ≡ instance.now.size }
     ensures searched { IfOk result (λ x. IsSearched instance.now root.now start.now x.permutation x.cost x.bound) }
     ensures proof { IfOk result (λ x. x.proof ≡ None) }
 {
-    let tabu = watcher.tabu;
+    let (watch, others) = beside;
     thread::scope(
         thread::scope_env(),
         system,
@@ -110,54 +114,50 @@ where
                 {
             for number in 0..options.tabu_threads(root) {
                 // A search whose thread cannot be started is left out.
-                let _ = scope.spawn(move || tabu.search(number));
+                let _ = scope.spawn(move || others.search(number));
             }
-            let found = searched_by_workers(system, alloc, instance, root, start, options, watcher);
-            tabu.halt();
+            let beside = (watch, others);
+            let found = searched_by_workers(system, alloc, instance, root, start, options, beside);
+            others.halt();
             found
         },
     )
 }
 
-/// What a search by workers yields.
-fn searched_by_workers<T, K, P>(
+/// What a search by workers yields, who take up what is offered, and hand on pieces of a proof.
+fn searched_by_workers<T, S, O>(
     system: &T,
     alloc: Global,
     instance: &Instance,
     root: &Partial,
     start: &Perm,
     options: &Options,
-    watcher: &Watcher<'_, '_, '_, T, K, P>,
+    beside: (&S, &O),
 ) -> Result<Planned, AllocError>
 where
     T: Threads + Wait + time::Clock + Sync,
-    K: Keeper,
-    P: Pieces + Sync,
+    S: TimedWatch,
+    O: Offers + Pieces + Sync,
     requires limited { AreLimited options.now }
     requires start { Permutes instance.now start.now }
     requires same_size { root.now.size ≡ instance.now.size }
     ensures searched { IfOk result (λ x. IsSearched instance.now root.now start.now x.permutation x.cost x.bound) }
     ensures proof { IfOk result (λ x. x.proof ≡ None) }
 {
-    let easy = searched_briefly(system, alloc, instance, root, start, options, watcher)?;
+    let (watch, offers) = beside;
+    let easy = searched_briefly(system, alloc, instance, root, start, options, watch)?;
     if let Some(found) = easy {
         return Ok(found);
     }
     let scale = scale_for(cost(instance, start));
-    let now = watcher.within.now();
-    let ground = ground_for(alloc, instance, root, options, scale, now)?;
+    let ground = ground_for(alloc, instance, root, options, scale, watch.now())?;
     let task = Task {
         ground: &ground,
         root,
         start,
-        stop: watcher,
+        stop: watch,
     };
-    let crew = options.crew(root);
-    let beside = Beside {
-        tabu: watcher.tabu,
-        pieces: watcher.pieces,
-    };
-    let found = searched_on(system, alloc, instance, &task, crew, &beside)?;
+    let found = searched_on(system, alloc, instance, &task, options.crew(root), offers)?;
     if found.open_nodes == 0 {
         return Ok(found);
     }
@@ -206,19 +206,18 @@ fn with_permutation(instance: &Instance, root: &Partial, found: Planned, best: P
 
 /// What a search by the bounds of Gilmore and Lawler yields if it ends within a few nodes; `None` if it does not, if
 /// these are the bounds of the whole search, or if a proof by pair duals is requested.
-fn searched_briefly<T, K, P>(
+fn searched_briefly<T, S>(
     system: &T,
     alloc: Global,
     instance: &Instance,
     root: &Partial,
     start: &Perm,
     options: &Options,
-    watcher: &Watcher<'_, '_, '_, T, K, P>,
+    watch: &S,
 ) -> Result<Option<Planned>, AllocError>
 where
     T: Threads + Wait + time::Clock + Sync,
-    K: Keeper,
-    P: Pieces + Sync,
+    S: Watch,
     requires limited { AreLimited options.now }
     requires start { Permutes instance.now start.now }
     requires same_size { root.now.size ≡ instance.now.size }
@@ -233,7 +232,7 @@ where
         ground: &ground,
         root,
         start,
-        stop: watcher,
+        stop: watch,
     };
     let crew = Crew {
         limit: Some(EASY_NODES),
@@ -254,7 +253,7 @@ fn searched_on<T, S, O>(
     instance: &Instance,
     task: &Task<'_, S>,
     crew: Crew,
-    beside: &O,
+    offers: &O,
 ) -> Result<Planned, AllocError>
 where
     T: Threads + Wait + time::Clock + Sync,
@@ -268,7 +267,7 @@ where
     ensures searched { IfOk result (λ x. IsSearched instance.now task.now.root.now task.now.start.now x.permutation x.cost x.bound) }
     ensures proof { IfOk result (λ x. x.proof ≡ None) }
 {
-    let answer = solve(system, alloc, task, crew, beside)?;
+    let answer = solve(system, alloc, task, crew, offers)?;
     let found = found_by(&answer)?;
     Ok(found)
 }
@@ -367,15 +366,19 @@ fn with_bound(found: Planned, bound: i128) -> Planned
     Planned { bound, ..found }
 }
 
+/// A watch that also knows the time.
+trait TimedWatch: Watch {
+    /// How many milliseconds ago the run began.
+    fn now(&self) -> u64;
+}
+
 /// Stops a search and the tabu searches beside it if a keeper requests it or no pieces of its proof can be kept any
 /// more, and reports their progress to that keeper.
 #[derive(Drop)]
 struct Watcher<'a, 'k, 't, T, K: Keeper, P> {
     within: WithinMemory<'k, K>,
-    /// The tabu searches beside it.
-    tabu: &'a Tabu<'t, T>,
-    /// What takes the pieces of its proof.
-    pieces: &'a P,
+    /// What is beside it.
+    others: &'a WithPieces<'a, 't, T, P>,
     /// The number of rounds of the thread that keeps the space so far.
     looks: Cell<u32>,
 }
@@ -384,9 +387,9 @@ impl<T: Wait + time::Clock, K: Keeper, P: Pieces> Stop for Watcher<'_, '_, '_, T
     ghost says = { λ _ _. Unit {0} };
 
     fn is_requested(&self) -> bool {
-        let is_wanted = self.within.is_wanted() || self.pieces.have_failed();
+        let is_wanted = self.within.is_wanted() || self.others.have_failed();
         if is_wanted {
-            self.tabu.halt();
+            self.others.halt();
         }
         is_wanted
     }
@@ -397,12 +400,18 @@ impl<T: Wait + time::Clock, K: Keeper, P: Pieces> Watch for Watcher<'_, '_, '_, 
         let looks = self.looks.get().wrapping_add(1);
         self.looks.set(looks);
         if looks % ROUNDS_PER_LOOK == 0 && self.within.is_watching() {
-            let cost = progress.cost.min(self.tabu.cost());
+            let cost = progress.cost.min(self.others.tabu.cost());
             self.within.see(&Progress {
                 cost: Some(cost),
                 bound: progress.least.map(|least| least.min(cost)),
                 decided: progress.tried,
             });
         }
+    }
+}
+
+impl<T: Wait + time::Clock, K: Keeper, P: Pieces> TimedWatch for Watcher<'_, '_, '_, T, K, P> {
+    fn now(&self) -> u64 {
+        self.within.now()
     }
 }

@@ -2,6 +2,7 @@
 
 ghost use Rattle.std.specs.Prelude.{length, ◌≡◌};
 
+use part_search::Offers;
 use plan_file::{completed, improved_keeping};
 use qap_cost::{Instance, Partial, Perm};
 use qap_improve::{Hook, TabuPlan};
@@ -39,6 +40,15 @@ pub(crate) struct Tabu<'a, T> {
     ended_ms: AtomicU64,
 }
 
+/// Searches that go on beside another one, and offer it what they find.
+pub(crate) trait Beside: Offers {
+    /// One of them, until it is halted.
+    fn search(&self, number: u16);
+
+    /// Lets all of them end.
+    fn halt(&self);
+}
+
 impl<'a, T: Wait + time::Clock> Tabu<'a, T> {
     /// Searches that have not begun, and draw their random numbers from this seed.
     pub(crate) fn new(
@@ -72,11 +82,6 @@ impl<'a, T: Wait + time::Clock> Tabu<'a, T> {
         Tabu { first_ms, ..self }
     }
 
-    /// Lets all searches end.
-    pub(crate) fn halt(&self) {
-        self.halt.store(true, Ordering::SeqCst);
-    }
-
     /// What the best permutation so far costs.
     pub(crate) fn cost(&self) -> i128 {
         self.best.lock(self.system).cost()
@@ -85,23 +90,6 @@ impl<'a, T: Wait + time::Clock> Tabu<'a, T> {
     /// The best permutation so far.
     pub(crate) fn best(&self) -> Result<Perm, AllocError> {
         self.best.lock(self.system).permutation().copy()
-    }
-
-    /// An iterated tabu search (Misevicius 2004), until it is halted or memory runs out: after some iterations it
-    /// begins again from exchanges at random.
-    pub(crate) fn search(&self, number: u16) {
-        let Ok(mut here) = self.start.copy() else {
-            return;
-        };
-        for _ in 0..u32::MAX {
-            if self.is_over(None) {
-                return;
-            }
-            match self.next_from(&here, number) {
-                Ok(next) => here = next,
-                Err(AllocError) => return,
-            }
-        }
     }
 
     /// Where a search begins again after one from here: one of an even number at the best permutation of all, another
@@ -185,18 +173,6 @@ impl<'a, T: Wait + time::Clock> Tabu<'a, T> {
         }
     }
 
-    /// The best permutation so far, if it costs less than this; if it is their turn, they take that first.
-    pub(crate) fn offered(&self, cost: i128) -> Option<Perm> {
-        if let Some(end) = self.turn_end() {
-            self.take_turn(end);
-        }
-        if self.cost() < cost {
-            self.best().ok()
-        } else {
-            None
-        }
-    }
-
     /// When their turn ends if it is their turn: after the first part of the time, and later after as long as the
     /// worker has gone on since their last turn, once that is a second.
     fn turn_end(&self) -> Option<u64> {
@@ -211,6 +187,42 @@ impl<'a, T: Wait + time::Clock> Tabu<'a, T> {
             None
         } else {
             Some(now.saturating_add(passed))
+        }
+    }
+}
+
+impl<T: Wait + time::Clock> Beside for Tabu<'_, T> {
+    /// An iterated tabu search (Misevicius 2004), until it is halted or memory runs out: after some iterations it
+    /// begins again from exchanges at random.
+    fn search(&self, number: u16) {
+        let Ok(mut here) = self.start.copy() else {
+            return;
+        };
+        for _ in 0..u32::MAX {
+            if self.is_over(None) {
+                return;
+            }
+            match self.next_from(&here, number) {
+                Ok(next) => here = next,
+                Err(AllocError) => return,
+            }
+        }
+    }
+
+    fn halt(&self) {
+        self.halt.store(true, Ordering::SeqCst);
+    }
+}
+
+impl<T: Wait + time::Clock> Offers for Tabu<'_, T> {
+    fn offered(&self, cost: i128) -> Option<Perm> {
+        if let Some(end) = self.turn_end() {
+            self.take_turn(end);
+        }
+        if self.cost() < cost {
+            self.best().ok()
+        } else {
+            None
         }
     }
 }
