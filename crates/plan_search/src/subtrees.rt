@@ -27,9 +27,6 @@ use std::thread::Threads;
 use std::{thread, time};
 use subtree_search::{Never, Stop};
 
-/// How many hard rounds follow the soft sweeps that find the pair duals of the root.
-const ROUNDS: u32 = 30;
-
 /// The greatest scale of pair duals is this power of two.
 const MAX_EXPONENT: u32 = 16;
 
