@@ -1,6 +1,6 @@
 -- The proofs of answers, and their texts.
 use Rattle.std.proofs.Common.{◌≡◌, ◌∙◌, ℕ, List, ℤ, ◌≤ℤ◌, None, Option, Some, arith, inl, inr, subst, sym}
-use Rattle.std.specs.Prelude.{IfSome}
+use Rattle.std.specs.Prelude.{IfSome, ⊤}
 use Rattle.std.proofs.lemmas.Int.{ints}
 use Rattle.qap_cost.specs.Instance.{Problem}
 use Rattle.qap_cost.specs.Placement.{Placement}
@@ -9,12 +9,18 @@ use Rattle.proof_spool.specs.Writing.{ShowsProof}
 use Rattle.plan_search.specs.Keeping.{IsKept, IsSearched, ProvesKept}
 use Rattle.plan_search.specs.Planning.{IsPlanned, ProvesOver}
 use Rattle.plan_search.specs.declared.planning.Planned.{Planned}
-use Rattle.qap_plan.specs.Proofs.{ClaimsFor, HasSame, Is, IsLeftBy, ProvesFor, ShowsFor, TellsProof}
+use Rattle.qap_plan.specs.Proofs.{ClaimsFor, HasSame, Is, IsLeftBy, MakesFor, ShowsFor, SpoolsFor, TellsProof}
 use Rattle.qap_plan.specs.declared.output.proof_file.AnswerProof.{AnswerProof}
 use Rattle.qap_plan.specs.declared.output.proof_file.AnswerProof.TheVariants.{Rows, Pairs, Lost}
 
--- the text of a proof shows what it proves
-pub shows_of : (I : Problem) (IsRoot : Placement → Type 0) (p : List ℕ) (c g : ℤ) (a : AnswerProof) (text : List ℕ)
+-- the proof is, or is to be, one over such a root, with this permutation, its cost and this bound
+abbrev ProvesFor : Problem → (Placement → Type 0) → List ℕ → ℤ → ℤ → AnswerProof → Type 0
+ProvesFor I IsRoot p c g (Rows C) = ClaimsFor I IsRoot p c g C
+ProvesFor I IsRoot p c g (Pairs s) = SpoolsFor I IsRoot p c g s
+ProvesFor I IsRoot p c g (Lost e) = ⊤
+
+-- its text shows what it proves
+shows_of : (I : Problem) (IsRoot : Placement → Type 0) (p : List ℕ) (c g : ℤ) (a : AnswerProof) (text : List ℕ)
     → ProvesFor I IsRoot p c g a → TellsProof a text → ShowsFor I IsRoot p c g text
 shows_of I IsRoot p c g (Rows C) text claims told = inl (record { proof = C; is_text = told; claims = claims })
 shows_of I IsRoot p c g (Pairs s) text spools told = inr (record {
@@ -32,13 +38,8 @@ claims_in : (I : Problem) (IsRoot : Placement → Type 0) (p : List ℕ) (c g : 
     → IfSome o (ClaimsFor I IsRoot p c g) → ClaimsFor I IsRoot p c g C
 claims_in I IsRoot p c g o C is claims = subst (λ (q : Option Claim). IfSome q (ClaimsFor I IsRoot p c g)) is claims
 
--- what holds of a proof, if there is one, holds of this one
-pub proves_in : (I : Problem) (IsRoot : Placement → Type 0) (p : List ℕ) (c g : ℤ) (o : Option AnswerProof) (a : AnswerProof) → o ≡ Some a
-    → IfSome o (ProvesFor I IsRoot p c g) → ProvesFor I IsRoot p c g a
-proves_in I IsRoot p c g o a is proves = subst (λ (q : Option AnswerProof). IfSome q (ProvesFor I IsRoot p c g)) is proves
-
 -- what a search has left proves what it has found
-pub proves_of : (I : Problem) (IsRoot : Placement → Type 0) (root : Placement) (found x : Planned) (a : AnswerProof) → IsRoot root
+proves_of : (I : Problem) (IsRoot : Placement → Type 0) (root : Placement) (found x : Planned) (a : AnswerProof) → IsRoot root
     → x.permutation ≡ found.permutation → x.cost ≡ found.cost → IfSome found.proof (ClaimsFor I IsRoot found.permutation found.cost found.bound)
     → IsLeftBy I root found x a → ProvesFor I IsRoot x.permutation x.cost x.bound a
 proves_of I IsRoot root found x (Rows C) is_root permutation cost claims left =
@@ -59,6 +60,18 @@ proves_of I IsRoot root found x (Pairs s) is_root permutation cost claims left =
   bound = left.bound;
 }
 proves_of I IsRoot root found x (Lost e) is_root permutation cost claims left = tt
+
+-- so its text shows that
+pub makes_of : (I : Problem) (IsRoot : Placement → Type 0) (root : Placement) (found x : Planned) (a : AnswerProof) → IsRoot root
+    → x.permutation ≡ found.permutation → x.cost ≡ found.cost → IfSome found.proof (ClaimsFor I IsRoot found.permutation found.cost found.bound)
+    → IsLeftBy I root found x a → MakesFor I IsRoot x.permutation x.cost x.bound a
+makes_of I IsRoot root found x a is_root permutation cost claims left = λ text told.
+    shows_of I IsRoot x.permutation x.cost x.bound a text (proves_of I IsRoot root found x a is_root permutation cost claims left) told
+
+-- the text of the proof that there is shows that
+pub makes_in : (I : Problem) (IsRoot : Placement → Type 0) (p : List ℕ) (c g : ℤ) (o : Option AnswerProof) (a : AnswerProof) → o ≡ Some a
+    → IfSome o (MakesFor I IsRoot p c g) → MakesFor I IsRoot p c g a
+makes_in I IsRoot p c g o a is makes = subst (λ (q : Option AnswerProof). IfSome q (MakesFor I IsRoot p c g)) is makes
 
 -- the proof of a search of what respects a node is over a root with the same completions
 pub claims_kept : (I : Problem) (x : Placement) (p : List ℕ) (c g : ℤ) (o : Option Claim) → IfSome o (ProvesKept I x p c g) → IfSome o (ClaimsFor I (HasSame x) p c g)
@@ -108,3 +121,11 @@ searched_below I x first found lower permutation cost less h =
       none_less = λ q completes. let most = h.none_less q completes in omega (arith, ints, less, most);
       at_most = let most = h.at_most in omega (arith, ints, less, most);
     }))
+
+-- a text that shows what is found of the larger instance shows it of its permutation in this form
+pub charged_text : (J : Problem) (IsRoot : Placement → Type 0) (whole last : Planned) (p text : List ℕ) → whole.permutation ≡ p → last.cost ≡ whole.cost → last.bound ≡ whole.bound
+    → ShowsFor J IsRoot whole.permutation whole.cost whole.bound text → ShowsFor J IsRoot p last.cost last.bound text
+charged_text J IsRoot whole last p text permutation cost bound shows =
+    subst (λ (q : List ℕ). ShowsFor J IsRoot q last.cost last.bound text) permutation
+    (subst (λ (z : ℤ). ShowsFor J IsRoot whole.permutation z last.bound text) (sym cost)
+    (subst (λ (z : ℤ). ShowsFor J IsRoot whole.permutation whole.cost z text) (sym bound) shows))

@@ -67,18 +67,13 @@ pub record SpoolsFor (I : Problem) (IsRoot : Placement → Type 0) (p : List ℕ
   pub cost : s.cost ≡ c
   pub bound : s.bound ≡ g
 
--- the proof is, or is to be, one over such a root
-abbrev pub ProvesFor : Problem → (Placement → Type 0) → List ℕ → ℤ → ℤ → AnswerProof → Type 0
-ProvesFor I IsRoot p c g (Rows C) = ClaimsFor I IsRoot p c g C
-ProvesFor I IsRoot p c g (Pairs s) = SpoolsFor I IsRoot p c g s
-ProvesFor I IsRoot p c g (Lost e) = ⊤
+-- whatever text the proof has, it is that of a valid one over such a root
+abbrev pub MakesFor : Problem → (Placement → Type 0) → List ℕ → ℤ → ℤ → AnswerProof → Type 0
+MakesFor I IsRoot p c g a = (text : List ℕ) → TellsProof a text → ShowsFor I IsRoot p c g text
 
--- the same for the larger instance
-pub record ProvesCharged (I : Problem) (x : Placement) (c : Charges) (f : Forbidden) (p : List ℕ) (cost g : ℤ) (a : AnswerProof) : Type 0 where
-  pub problem : Problem
-  pub node : Placement
-  pub restricts : Restricts I x c f problem node
-  pub proves : ProvesFor problem (HasSame node) (extended_list restricts.charges.count p) cost g a
+-- or of one for the larger instance over its node
+abbrev pub MakesCharged : Problem → Placement → Charges → Forbidden → List ℕ → ℤ → ℤ → AnswerProof → Type 0
+MakesCharged I x c f p cost g a = (text : List ℕ) → TellsProof a text → ShowsCharged I x c f p cost g text
 
 -- the proof that a search has found, or the pieces that it has left, over this root
 abbrev pub IsLeftBy : Problem → Placement → Planned → Planned → AnswerProof → Type 0

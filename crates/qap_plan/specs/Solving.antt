@@ -7,7 +7,7 @@ use Rattle.qap_proof.specs.declared.over_root.Stated.{Stated}
 use Rattle.qap_plan.specs.Answer.{part_line}
 use Rattle.plan_search.specs.Keeping.{IsSearched}
 use Rattle.qap_plan.specs.Outcome.{status_of}
-use Rattle.qap_plan.specs.Proofs.{Is, ProvesFor, ShowsFor, TellsProof}
+use Rattle.qap_plan.specs.Proofs.{Is, MakesFor, ShowsFor, TellsProof}
 use Rattle.plan_files.specs.Searched.{IsSearchedIn}
 use Rattle.plan_search.specs.Standing.{IsStanding}
 use Rattle.plan_files.specs.Starting.{IsSolutionIn}
@@ -32,7 +32,7 @@ pub record Stands (Holds : List ℕ → List ℕ → Type 0) (file : List ℕ) (
 -- what a search of the part has found, with its proof
 pub record IsSolved (p : Posed) (a : Proved) : Type 0 where
   pub searched : IsSearched p.searched.instance p.node p.start a.planned.permutation a.planned.cost a.planned.bound
-  pub proof : IfSome a.proof (ProvesFor p.searched.instance (Is p.node) a.planned.permutation a.planned.cost a.planned.bound)
+  pub proof : IfSome a.proof (MakesFor p.searched.instance (Is p.node) a.planned.permutation a.planned.cost a.planned.bound)
 
 -- from a sink to a sink by the line on a part; and how the run ends
 pub record TellsPart {S : Type 0} (Prints : S → List ℕ → S → Type 0) (cost bound : ℤ) (when : List ℕ) (status : Status) (old new : S) : Type 0 where

@@ -6,7 +6,7 @@ ghost use Rattle.plan_charge.specs.Forbidden.{AreForbidden};
 ghost use Rattle.plan_file.specs.Tables.{HasSizes};
 ghost use Rattle.qap_cost.specs.Objective.{Permutes};
 ghost use Rattle.qap_plan.specs.ChargedAnswer.{ArePartsIfCharged, IsChargedAnswer};
-ghost use Rattle.qap_plan.specs.Proofs.{ProvesCharged};
+ghost use Rattle.qap_plan.specs.Proofs.{MakesCharged};
 ghost use Rattle.plan_search.specs.Options.{AreLimited};
 
 use crate::output::proof_file::AnswerProof;
@@ -59,7 +59,7 @@ where
     requires charges { AreCharges charged.now.problem.now.instance.size charged.now.charges.now }
     requires forbidden { AreForbidden charged.now.problem.now.instance.size charged.now.forbidden.now }
     ensures answer { IfOk result (IsChargedAnswer charged.now.problem.now charged.now.charges.now charged.now.forbidden.now start) }
-    ensures proof { IfOk result (λ a. IfSome a.proof (ProvesCharged charged.now.problem.now.instance charged.now.problem.now.fixed charged.now.charges.now charged.now.forbidden.now a.planned.permutation a.planned.cost a.planned.bound)) }
+    ensures proof { IfOk result (λ a. IfSome a.proof (MakesCharged charged.now.problem.now.instance charged.now.problem.now.fixed charged.now.charges.now charged.now.forbidden.now a.planned.permutation a.planned.cost a.planned.bound)) }
 {
     let problem = charged.problem;
     let restriction = Restriction {

@@ -5,7 +5,7 @@ ghost use Rattle.plan_file.specs.Tables.{HasSizes};
 ghost use Rattle.qap_cost.specs.Placement.{Completes};
 ghost use Rattle.qap_plan.specs.ChargedOutcome.{PicturesCharged, TellsCharged};
 ghost use Rattle.qap_plan.specs.Outcome.{status_of as status_for};
-ghost use Rattle.qap_plan.specs.Proofs.{ProvesCharged, ShowsCharged};
+ghost use Rattle.qap_plan.specs.Proofs.{MakesCharged, ShowsCharged};
 
 use crate::commands::charged_answer::ChargedAnswer;
 use crate::output::json::charged_json_text;
@@ -30,7 +30,7 @@ pub struct ChargedOutcome<'a> {
 
 impl Outcome for ChargedOutcome<'_> {
     ghost is_sound = { λ s. HasSizes s.loaded.now.problem × Completes s.loaded.now.problem.fixed s.answer.planned.permutation
-        × IfSome s.answer.proof (ProvesCharged s.loaded.now.problem.instance s.loaded.now.problem.fixed s.loaded.now.charges s.loaded.now.forbidden s.answer.planned.permutation s.answer.planned.cost s.answer.planned.bound) };
+        × IfSome s.answer.proof (MakesCharged s.loaded.now.problem.instance s.loaded.now.problem.fixed s.loaded.now.charges s.loaded.now.forbidden s.answer.planned.permutation s.answer.planned.cost s.answer.planned.bound) };
 
     ghost tells = { λ s. TellsCharged s.loaded.now.problem s.answer };
 

@@ -1,7 +1,7 @@
 //! A run on a plan that names its tables.
 
 ghost use Rattle.std.specs.Prelude.{IfOk, IfSome, length, ◌≡◌};
-ghost use Rattle.qap_plan.specs.Proofs.{HasSame, ProvesFor};
+ghost use Rattle.qap_plan.specs.Proofs.{HasSame, MakesFor};
 ghost use Rattle.plan_file.specs.Tables.{HasSizes};
 ghost use Rattle.qap_plan.specs.Answered.{AnswersPlan, IsAnsweredPlan, TellsAnswer};
 ghost use Rattle.plan_search.specs.Keeping.{IsKept};
@@ -168,7 +168,7 @@ where
     requires sizes { HasSizes problem.now }
     requires start { IfSome start.now (λ p. length p ≡ problem.now.instance.size) }
     ensures kept { IfOk result (λ a. IsKept problem.now.instance problem.now.fixed start.now a.planned.permutation a.planned.cost a.planned.bound) }
-    ensures proof { IfOk result (λ a. IfSome a.proof (ProvesFor problem.now.instance (HasSame problem.now.fixed) a.planned.permutation a.planned.cost a.planned.bound)) }
+    ensures proof { IfOk result (λ a. IfSome a.proof (MakesFor problem.now.instance (HasSame problem.now.fixed) a.planned.permutation a.planned.cost a.planned.bound)) }
 {
     let (instance, fixed) = (&problem.instance, &problem.fixed);
     let first = copy_of(start)?;

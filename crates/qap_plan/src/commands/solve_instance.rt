@@ -2,7 +2,7 @@
 
 ghost use Rattle.std.specs.Prelude.{IfOk, IfSome, option_copied, option_map};
 ghost use Rattle.qap_cost.specs.Placement.{root_of};
-ghost use Rattle.qap_plan.specs.Proofs.{Is, ProvesFor};
+ghost use Rattle.qap_plan.specs.Proofs.{Is, MakesFor};
 ghost use Rattle.qap_plan.specs.Answered.{AnswersInstance, HasFoundIn};
 ghost use Rattle.plan_search.specs.Options.{AreLimited};
 ghost use Rattle.plan_search.specs.Planning.{ProvesOver};
@@ -132,7 +132,7 @@ where
     K: Keeper,
     requires { AreLimited request.now.options }
     ensures found { IfOk result (λ a. HasFoundIn instance.now (option_map (λ v. v.items) start.now) request.now.options.passes a.0 a.1.planned) }
-    ensures proof { IfOk result (λ a. IfSome a.1.proof (ProvesFor a.0 (Is (root_of a.0.size)) a.1.planned.permutation a.1.planned.cost a.1.planned.bound)) }
+    ensures proof { IfOk result (λ a. IfSome a.1.proof (MakesFor a.0 (Is (root_of a.0.size)) a.1.planned.permutation a.1.planned.cost a.1.planned.bound)) }
 {
     let read = searched(system, alloc, request, instance, start, hooks)?;
     let root = Partial::root(alloc, read.0.size())?;

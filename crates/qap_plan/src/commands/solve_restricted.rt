@@ -7,7 +7,7 @@ ghost use Rattle.plan_file.specs.Tables.{HasSizes};
 ghost use Rattle.qap_plan.specs.Answered.{IsAnsweredCharged, TellsAnswerCharged};
 ghost use Rattle.plan_files.specs.Begun.{IsArrangementIn, IsStartIn};
 ghost use Rattle.qap_plan.specs.ChargedAnswer.{IsChargedAnswer};
-ghost use Rattle.qap_plan.specs.Proofs.{ProvesCharged};
+ghost use Rattle.qap_plan.specs.Proofs.{MakesCharged};
 ghost use Rattle.plan_search.specs.Options.{AreLimited};
 ghost use Rattle.plan_files.specs.Outputs.{IsSuccess};
 
@@ -124,7 +124,7 @@ where
     requires charges { AreCharges loaded.now.problem.instance.size loaded.now.charges }
     requires forbidden { AreForbidden loaded.now.problem.instance.size loaded.now.forbidden }
     ensures answer { IfOk result (IsChargedAnswer loaded.now.problem loaded.now.charges loaded.now.forbidden start) }
-    ensures proof { IfOk result (λ a. IfSome a.proof (ProvesCharged loaded.now.problem.instance loaded.now.problem.fixed loaded.now.charges loaded.now.forbidden a.planned.permutation a.planned.cost a.planned.bound)) }
+    ensures proof { IfOk result (λ a. IfSome a.proof (MakesCharged loaded.now.problem.instance loaded.now.problem.fixed loaded.now.charges loaded.now.forbidden a.planned.permutation a.planned.cost a.planned.bound)) }
 {
     let charged = ChargedProblem {
         problem: &loaded.problem,

@@ -4,7 +4,7 @@ ghost use Rattle.std.specs.Prelude.{IfOk, IfSome, ◌≡◌};
 ghost use Rattle.qap_cost.specs.Placement.{root_of};
 ghost use Rattle.qap_plan.specs.Answer.{answer_text as text_of_answer};
 ghost use Rattle.qap_plan.specs.Outcome.{TellsFound, status_of as status_for};
-ghost use Rattle.qap_plan.specs.Proofs.{Is, ProvesFor, ShowsFor};
+ghost use Rattle.qap_plan.specs.Proofs.{Is, MakesFor, ShowsFor};
 
 use crate::output::answer::answer_text;
 use crate::output::json::json_text;
@@ -25,7 +25,7 @@ pub struct FoundOutcome<'a> {
 }
 
 impl Outcome for FoundOutcome<'_> {
-    ghost is_sound = { λ s. IfSome s.answer.proof (ProvesFor s.instance.now (Is (root_of s.instance.now.size)) s.answer.planned.permutation s.answer.planned.cost s.answer.planned.bound) };
+    ghost is_sound = { λ s. IfSome s.answer.proof (MakesFor s.instance.now (Is (root_of s.instance.now.size)) s.answer.planned.permutation s.answer.planned.cost s.answer.planned.bound) };
 
     ghost tells = { λ s. TellsFound s.answer.planned };
 

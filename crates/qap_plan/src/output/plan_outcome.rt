@@ -6,7 +6,7 @@ ghost use Rattle.plan_answer.specs.Layout.{layout_text as layout_of};
 ghost use Rattle.plan_file.specs.Tables.{HasSizes};
 ghost use Rattle.qap_cost.specs.Placement.{Completes};
 ghost use Rattle.qap_plan.specs.Outcome.{TellsPlan, status_of as status_for};
-ghost use Rattle.qap_plan.specs.Proofs.{HasSame, ProvesFor, ShowsFor};
+ghost use Rattle.qap_plan.specs.Proofs.{HasSame, MakesFor, ShowsFor};
 ghost use Rattle.qap_plan.specs.Picturing.{ShowsVerdict};
 
 use crate::output::json::named_json_text;
@@ -37,7 +37,7 @@ pub struct PlanOutcome<'a> {
 impl Outcome for PlanOutcome<'_> {
     ghost is_sound = { λ s. HasSizes s.loaded.now.problem × Completes s.loaded.now.problem.fixed s.answer.planned.permutation
         × IfSome s.start.now (λ p. length p ≡ s.loaded.now.problem.instance.size)
-        × IfSome s.answer.proof (ProvesFor s.loaded.now.problem.instance (HasSame s.loaded.now.problem.fixed) s.answer.planned.permutation s.answer.planned.cost s.answer.planned.bound) };
+        × IfSome s.answer.proof (MakesFor s.loaded.now.problem.instance (HasSame s.loaded.now.problem.fixed) s.answer.planned.permutation s.answer.planned.cost s.answer.planned.bound) };
 
     ghost tells = { λ s. TellsPlan s.loaded.now.problem s.answer.planned };
 

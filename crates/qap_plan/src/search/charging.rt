@@ -5,7 +5,7 @@ ghost use Rattle.plan_charge.specs.Charges.{AreCharges};
 ghost use Rattle.plan_charge.specs.Forbidden.{AreForbidden};
 ghost use Rattle.plan_charge.specs.Restricted.{IsAllowed, IsCharged};
 ghost use Rattle.qap_cost.specs.Bijection.{IsPerm};
-ghost use Rattle.qap_plan.specs.Proofs.{ProvesCharged};
+ghost use Rattle.qap_plan.specs.Proofs.{MakesCharged};
 ghost use Rattle.plan_search.specs.Options.{AreLimited};
 
 use crate::output::proof_file::{Proved, proved};
@@ -41,7 +41,7 @@ where
     requires forbidden { AreForbidden instance.now.size restriction.now.forbidden.now }
     requires start { IsAllowed restriction.now.fixed.now restriction.now.forbidden.now start.now }
     ensures charged { IfOk result (λ a. IsCharged instance.now restriction.now.fixed.now restriction.now.charges.now restriction.now.forbidden.now start.now a.planned.permutation a.planned.cost a.planned.bound) }
-    ensures proof { IfOk result (λ a. IfSome a.proof (ProvesCharged instance.now restriction.now.fixed.now restriction.now.charges.now restriction.now.forbidden.now a.planned.permutation a.planned.cost a.planned.bound)) }
+    ensures proof { IfOk result (λ a. IfSome a.proof (MakesCharged instance.now restriction.now.fixed.now restriction.now.charges.now restriction.now.forbidden.now a.planned.permutation a.planned.cost a.planned.bound)) }
 {
     restricted_law();
     let n = instance.size();

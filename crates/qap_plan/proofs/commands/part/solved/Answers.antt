@@ -1,7 +1,7 @@
 use Rattle.std.proofs.Common.{refl}
 use Rattle.std.proofs.lemmas.Option.{IfSome_then}
 use Rattle.qap_plan.specs.Proofs.{Is}
-use Rattle.qap_plan.proofs.Proofs.{claims_over, proves_of, searched_below}
+use Rattle.qap_plan.proofs.Proofs.{claims_over, makes_of, searched_below}
 use Rattle.qap_plan.proofs.commands.part.solved.Goals as goal
 
 pub returns : goal.returns
@@ -14,6 +14,6 @@ returns g c =
     record {
       searched = searched_below I p.node p.start found answer.planned told.permutation told.cost told.bound c.in_ok-found.ensures.searched;
       proof = IfSome_then answer.proof told.proof (λ a left.
-          proves_of I (Is p.node) p.node found answer.planned a refl told.permutation told.cost
+          makes_of I (Is p.node) p.node found answer.planned a refl told.permutation told.cost
           (claims_over I p.node found.permutation found.cost found.bound found.proof c.in_ok-found.ensures.proof) left);
     }

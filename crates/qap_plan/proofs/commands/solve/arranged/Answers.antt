@@ -2,7 +2,7 @@ use Rattle.std.proofs.Common.{List, Option, subst, ℕ}
 use Rattle.std.proofs.lemmas.Option.{IfSome_then}
 use Rattle.plan_search.specs.Keeping.{IsKept}
 use Rattle.qap_plan.specs.Proofs.{HasSame}
-use Rattle.qap_plan.proofs.Proofs.{claims_kept, kept_below, proves_of}
+use Rattle.qap_plan.proofs.Proofs.{claims_kept, kept_below, makes_of}
 use Rattle.qap_plan.proofs.commands.solve.arranged.Goals as goal
 
 pub returns-clause-kept : goal.returns-clause-kept
@@ -19,5 +19,5 @@ returns-clause-proof g c =
     let told = c.proved-answer.ensures in
     let answer = c.proved-answer.result in
     IfSome_then answer.proof told.proof (λ a left.
-        proves_of P.instance (HasSame P.fixed) c.in_ok-root.root found answer.planned a c.in_ok-root.ensures.same told.permutation told.cost
+        makes_of P.instance (HasSame P.fixed) c.in_ok-root.root found answer.planned a c.in_ok-root.ensures.same told.permutation told.cost
         (claims_kept P.instance P.fixed found.permutation found.cost found.bound found.proof c.in_ok-found.ensures.proof) left)

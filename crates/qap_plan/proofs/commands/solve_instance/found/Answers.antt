@@ -3,7 +3,7 @@ use Rattle.std.specs.Prelude.{IfSome}
 use Rattle.std.proofs.lemmas.Option.{IfSome_then}
 use Rattle.qap_cost.specs.Placement.{Placement, root_of}
 use Rattle.qap_plan.specs.Proofs.{Is}
-use Rattle.qap_plan.proofs.Proofs.{claims_over, planned_below, proves_of}
+use Rattle.qap_plan.proofs.Proofs.{claims_over, planned_below, makes_of}
 use Rattle.qap_plan.proofs.commands.solve_instance.found.Goals as goal
 
 pub returns-clause-found : goal.returns-clause-found
@@ -28,5 +28,5 @@ returns-clause-proof g c =
     let answer = c.proved-answer.result in
     let root : c.in_ok-root.root ≡ root_of I.size = c.in_ok-root.ensures.value ∙ ap root_of c.size.ensures.value in
     IfSome_then answer.proof told.proof (λ a left.
-        proves_of I (Is (root_of I.size)) c.in_ok-root.root found answer.planned a root told.permutation told.cost
+        makes_of I (Is (root_of I.size)) c.in_ok-root.root found answer.planned a root told.permutation told.cost
         (claims_over I (root_of I.size) found.permutation found.cost found.bound found.proof c.in_ok-read.ensures.proof) left)
