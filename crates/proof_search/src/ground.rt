@@ -17,7 +17,7 @@ use qap_cost::{Instance, Partial, Perm};
 use qap_symmetry::{Table, symmetries_of};
 use std::alloc::{AllocError, Global};
 use std::marker::Model;
-use subtree_search::{Incumbent, Piece, Stop, Subtree, SubtreeSearch, TextRecord};
+use subtree_search::{Estimate, Incumbent, Piece, Stop, Subtree, SubtreeSearch, TextRecord};
 
 /// An instance with the symmetries of its matrices, its cost step, a number of 64 bits that divides that, and the scale of pair duals. It
 /// is seen as the instance.
@@ -88,6 +88,26 @@ impl Ground {
         Ok(duals)
     }
 
+    /// Pair duals of a root, found by soft sweeps and this many hard rounds.
+    pub fn root_duals(
+        &self,
+        alloc: Global,
+        root: &Partial,
+        rounds: u32,
+    ) -> Result<PairDuals<i64>, AllocError>
+        requires size { self.now.size ≡ root.now.size }
+        ensures { IfOk result (AreReady self.now root.now) }
+    {
+        let effort = Effort {
+            rounds,
+            ..Effort::root()
+        };
+        let first = self.duals(alloc, root, None, &effort)?;
+        // From these the pair duals of each node begin, also its own, as in a search without a proof.
+        let duals = self.duals(alloc, root, Some(&first), &Effort::inner())?;
+        Ok(duals)
+    }
+
     /// A node with its own pair duals, for a search.
     fn subtree<'a>(&'a self, node: &'a Partial, duals: &'a PairDuals<i64>) -> Subtree<'a>
         ensures instance { result.instance.now ≡ self.now }
@@ -129,6 +149,26 @@ impl Ground {
             nodes.push(node.place(children[i].facility, children[i].location)?)?;
         }
         Ok(nodes)
+    }
+
+    /// Estimates, by this many random dives, how many nodes a search below a node evaluates under its pair duals.
+    pub fn estimate(
+        &self,
+        search: &mut SubtreeSearch,
+        node: &Partial,
+        duals: &PairDuals<i64>,
+        incumbent: &mut Incumbent,
+        dives: u32,
+    ) -> Result<Estimate, AllocError>
+        requires size { self.now.size ≡ node.now.size }
+        requires ready { AreReady self.now node.now duals.now }
+        requires incumbent { IsIncumbent self.now incumbent.old }
+        ensures incumbent { IsIncumbent self.now incumbent.new }
+        ensures no_worse { incumbent.new.cost ≤ℤ incumbent.old.cost }
+    {
+        let subtree = self.subtree(node, duals);
+        let estimate = search.estimate(&subtree, incumbent, dives)?;
+        Ok(estimate)
     }
 
     /// Searches the subtree below a node under pair duals of its own, but for children that a piece proves, and improves the

@@ -3,6 +3,7 @@
 #![tactic(auto)]
 
 mod crew;
+mod estimating;
 mod ground;
 mod joining;
 mod opening;
@@ -11,6 +12,7 @@ mod proving;
 mod watch;
 mod writing;
 
+pub use estimating::estimate;
 pub use proof::PairProof;
 pub use proving::{Found, Plan, prove};
 pub use watch::Watch;

@@ -15,7 +15,6 @@ use crate::joining::{joined, prove_each, whole_pieces};
 use crate::opening::open_each;
 use crate::proof::PairProof;
 use crate::watch::Watch;
-use dual_ascent::Effort;
 use pair_duals::{PairDuals, step_law};
 use qap_cost::{Instance, Partial, Perm};
 use std::alloc::{AllocError, Global};
@@ -118,13 +117,7 @@ where
     ensures incumbent { OnOk result (IsIncumbent ground.now incumbent.new) }
     ensures no_worse { OnOk result (incumbent.new.cost ≤ℤ incumbent.old.cost) }
 {
-    let effort = Effort {
-        rounds: plan.rounds,
-        ..Effort::root()
-    };
-    let first = ground.duals(alloc, root, None, &effort)?;
-    // From these the pair duals of each node begin, also its own, as in a search without a proof.
-    let duals = ground.duals(alloc, root, Some(&first), &Effort::inner())?;
+    let duals = ground.root_duals(alloc, root, plan.rounds)?;
     let mut search = SubtreeSearch::new(alloc);
     let pieces = pieces_below(
         rt,
