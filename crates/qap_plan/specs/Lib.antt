@@ -9,6 +9,7 @@ pub mod Charging
 pub mod Checking
 pub mod Comparing
 pub mod Converting
+pub mod Estimates
 pub mod NodeLines
 pub mod Outcome
 pub mod PartFiles
