@@ -1,10 +1,10 @@
 //! The subcommand `split`: its command line and its run.
 
-ghost use Rattle.std.specs.Prelude.{IfOk, IfSome, length, option_copied, string_bytes, ◌≡◌};
+ghost use Rattle.std.specs.Prelude.{IfOk, IfSome, length, option_copied, string_bytes, true, ◌≡◌};
 ghost use Rattle.qap_cost.specs.Objective.{Permutes};
 ghost use Rattle.plan_search.specs.Options.{AreLimited};
 ghost use Rattle.plan_files.specs.Outputs.{EndsWith, IsSuccess};
-ghost use Rattle.qap_plan.specs.Estimates.{AreOfSize};
+ghost use Rattle.qap_plan.specs.Estimates.{AreOfSize, PrintsEstimates};
 ghost use Rattle.qap_plan.specs.PartFiles.{ArePartFiles, AreTextsOf, BeginsIn, IsFileIn, SplitsUp, TellsParts, TellsSplit, WritesParts, split_line, split_status};
 ghost use Rattle.plan_files.specs.Starting.{IsSolutionIn};
 ghost use Rattle.qap_text.specs.WrittenSolution.{solution_text};
@@ -168,8 +168,7 @@ where
     match split_up(system, alloc, &searched, start, options, wanted, keeper) {
         Ok(skeleton) => {
             let instance = &searched.instance;
-            let status = tell_parts(alloc, sink, request, &names, instance, &skeleton, keeper);
-            Ok(status)
+            Ok(tell_parts(alloc, sink, request, &names, instance, &skeleton, keeper))
         }
         Err(error) => Err(Refusal::File(request.file, error)),
     }
@@ -273,11 +272,33 @@ fn tell_parts<S: Sink, K: Keeper>(
     ensures told { IsSuccess result → TellsParts S.writes S.prints request.now.estimate names.now skeleton.now sink.old sink.new }
 {
     let status = write_parts(alloc, sink, request, names, skeleton);
-    let succeeds = matches!(status, Status::Done | Status::Stopped);
-    if !succeeds || !request.estimate {
-        return status;
+    if request.estimate {
+        let folder = request.folder;
+        return tell_more(alloc, sink, folder, instance, skeleton, keeper, status);
     }
-    match tell_estimates(alloc, sink, request.folder, instance, skeleton, keeper) {
+    status
+}
+
+/// Prints estimates of the parts, if what was done before has not failed, and returns how the run ends.
+fn tell_more<S: Sink, K: Keeper>(
+    alloc: Global,
+    sink: &mut S,
+    folder: &str,
+    instance: &Instance,
+    skeleton: &Skeleton,
+    keeper: &K,
+    status: Status,
+) -> Status
+    requires permutes { Permutes instance.now skeleton.now.proof.permutation }
+    requires sizes { AreOfSize instance.now.size skeleton.now.parts.items }
+    ensures ends { IsSuccess result → result ≡ status }
+    ensures printed { IsSuccess result → PrintsEstimates S.prints true (length skeleton.now.parts.items) sink.old sink.new }
+{
+    match status {
+        Status::Done | Status::Stopped => {}
+        failed => return failed,
+    }
+    match tell_estimates(alloc, sink, folder, instance, skeleton, keeper) {
         Ok(()) => status,
         Err(failed) => failed,
     }
