@@ -33,6 +33,7 @@ pub fn estimate_below<K: Keeper>(
         rounds: ROUNDS,
         workers: 1,
     };
-    let found = estimate(alloc, instance, node, start.copy()?, plan, DIVES)?;
+    let first = start.copy()?;
+    let found = estimate(alloc, instance, node, first, plan, DIVES)?;
     Ok(found)
 }

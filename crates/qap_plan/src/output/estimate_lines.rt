@@ -71,7 +71,7 @@ fn estimate_text(alloc: Global, estimate: Estimate) -> Result<String, AllocError
 fn number_text(alloc: Global, number: f64) -> Result<String, AllocError> {
     let (digits, exponent) = rounded(number);
     if exponent < SCIENTIFIC {
-        let whole = digits.saturating_mul(10_u64.pow(exponent));
+        let whole = digits.saturating_mul(10_u64.saturating_pow(exponent));
         return format!(in alloc; "{whole}");
     }
     let (first, rest) = (digits / 100, digits % 100);
@@ -82,10 +82,11 @@ fn number_text(alloc: Global, number: f64) -> Result<String, AllocError> {
 /// The number of up to three digits, and the power of ten, whose product is nearest to a number.
 fn rounded(number: f64) -> (u64, u32) {
     let mut rest = number;
-    let mut exponent: u32 = 0;
-    while rest >= 999.5 && exponent < MAX_EXPONENT {
+    for exponent in 0..MAX_EXPONENT {
+        if rest < 999.5 {
+            return (saturating_f64_to_u64(rest + 0.5), exponent);
+        }
         rest /= 10.0;
-        exponent += 1;
     }
-    (saturating_f64_to_u64(rest + 0.5), exponent)
+    (saturating_f64_to_u64(rest + 0.5), MAX_EXPONENT)
 }
