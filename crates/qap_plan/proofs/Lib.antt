@@ -1,3 +1,4 @@
 mod Endings
+mod Printing
 mod SplitUps
 mod Starts

@@ -1,9 +1,9 @@
 //! The subcommand `split`: its command line and its run.
 
-ghost use Rattle.std.specs.Prelude.{IfOk, IfSome, length, option_copied, string_bytes, true, ◌≡◌};
+ghost use Rattle.std.specs.Prelude.{IfOk, IfSome, false, length, option_copied, string_bytes, true, ◌≡◌};
 ghost use Rattle.qap_cost.specs.Objective.{Permutes};
 ghost use Rattle.plan_search.specs.Options.{AreLimited};
-ghost use Rattle.plan_files.specs.Outputs.{EndsWith, IsSuccess};
+ghost use Rattle.plan_files.specs.Outputs.{EndsWith, IsFailure, IsSuccess};
 ghost use Rattle.qap_plan.specs.Estimates.{AreOfSize, PrintsEstimates};
 ghost use Rattle.qap_plan.specs.PartFiles.{ArePartFiles, AreTextsOf, BeginsIn, IsFileIn, SplitsUp, TellsParts, TellsSplit, WritesParts, split_line, split_status};
 ghost use Rattle.plan_files.specs.Starting.{IsSolutionIn};
@@ -294,9 +294,8 @@ fn tell_more<S: Sink, K: Keeper>(
     ensures ends { IsSuccess result → result ≡ status }
     ensures printed { IsSuccess result → PrintsEstimates S.prints true (length skeleton.now.parts.items) sink.old sink.new }
 {
-    match status {
-        Status::Done | Status::Stopped => {}
-        failed => return failed,
+    if !succeeds(status) {
+        return status;
     }
     match tell_estimates(alloc, sink, folder, instance, skeleton, keeper) {
         Ok(()) => status,
@@ -337,6 +336,13 @@ fn ending_of(request: &SplitRequest<'_>, skeleton: &Skeleton) -> Status
     } else {
         Status::Stopped
     }
+}
+
+/// Whether a run that ends so has not failed.
+fn succeeds(status: Status) -> bool
+    ensures { result ≡ false → IsFailure status }
+{
+    matches!(status, Status::Done | Status::Stopped)
 }
 
 /// Writes the three files, each independently of the others.
