@@ -41,7 +41,8 @@ pub fn tell_estimates<S: Sink, K: Keeper>(
         print_line(alloc, sink, folder, line)?;
     }
     let line = total_line(alloc, total);
-    print_line(alloc, sink, folder, line)
+    print_line(alloc, sink, folder, line)?;
+    Ok(())
 }
 
 /// The estimate of part `k`, if there is one.
