@@ -1,20 +1,12 @@
 -- Texts that are printed one after another.
-use Rattle.std.proofs.Common.{◌≡◌, ◌+◌, ◌∷◌, [], ℕ, List, arith, false, length, nat_eq, refl, subst, sym}
+use Rattle.std.proofs.Common.{◌≡◌, ◌+◌, ◌∷◌, ℕ, List, arith, false, length, nat_eq, subst, sym}
 use Rattle.std.specs.Prelude.{if◌then◌else◌, true}
 use Rattle.qap_plan.specs.Estimates.{PrintsEstimates, PrintsMany}
-
--- none yet
-pub PrintsMany-none : {S : Type 0} (Prints : S → List ℕ → S → Type 0) (s : S) → PrintsMany Prints 0 s s
-PrintsMany-none Prints s = ([], (refl, refl))
 
 -- one more
 pub PrintsMany-more : {S : Type 0} (Prints : S → List ℕ → S → Type 0) (count : ℕ) (old middle new : S) (text : List ℕ) → PrintsMany Prints count old middle → Prints middle text new → PrintsMany Prints (count + 1) old new
 PrintsMany-more Prints count old middle new text h last =
-    (text ∷ h.0, (omega (arith, h.1.0), record { middle = middle; first = h.1.1; last = last }))
-
--- no part is left
-pub PrintsEstimates-none : {S : Type 0} (Prints : S → List ℕ → S → Type 0) (left : ℕ) (s : S) → left ≡ 0 → PrintsEstimates Prints true left s s
-PrintsEstimates-none Prints left s none = subst (λ (n : ℕ). PrintsEstimates Prints true n s s) (sym none) (PrintsMany-none Prints s)
+    (text ∷ h.0, omega (arith, h.1), record { middle = middle; first = h.2; last = last })
 
 -- all parts, and one more text
 pub PrintsEstimates-all : {S : Type 0} (Prints : S → List ℕ → S → Type 0) (left : ℕ) (old new : S) → nat_eq left 0 ≡ false → PrintsMany Prints (left + 1) old new → PrintsEstimates Prints true left old new
