@@ -1,5 +1,5 @@
 -- Texts that are printed one after another.
-use Rattle.std.proofs.Common.{◌≡◌, ◌+◌, ◌∷◌, ℕ, List, arith, false, length, nat_eq, subst, sym}
+use Rattle.std.proofs.Common.{◌≡◌, ◌+◌, ◌∷◌, ℕ, List, arith, false, nat_eq, subst, sym}
 use Rattle.std.specs.Prelude.{if◌then◌else◌, true}
 use Rattle.qap_plan.specs.Estimates.{PrintsEstimates, PrintsMany}
 
