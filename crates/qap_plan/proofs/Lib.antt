@@ -1,3 +1,4 @@
 mod Endings
+mod Proofs
 mod SplitUps
 mod Starts

@@ -5,7 +5,6 @@ pub mod Answers
 pub mod Asking
 pub mod ChargedAnswer
 pub mod ChargedOutcome
-pub mod Charging
 pub mod Checking
 pub mod Comparing
 pub mod Converting
@@ -14,6 +13,7 @@ pub mod Outcome
 pub mod PartFiles
 pub mod Parts
 pub mod Picturing
+pub mod Proofs
 pub mod Showing
 pub mod Solving
 pub mod Splitting

@@ -1,4 +1,4 @@
-//! Depth-first search of the whole subtree below a node, under pair duals of that node, and proofs of nodes by such
+//! Depth-first search of the whole subtree below a node, under pair duals of that node, and splits of nodes by such
 //! searches.
 #![tactic(auto)]
 
@@ -10,8 +10,6 @@ mod level;
 mod line;
 mod outcome;
 mod path;
-mod piece;
-mod proving;
 mod record;
 mod residuals;
 mod search;
@@ -23,9 +21,8 @@ mod trial;
 
 pub use incumbent::Incumbent;
 pub use outcome::Outcome;
-pub use piece::Piece;
 pub use record::{Record, Silent};
 pub use search::{Subtree, SubtreeSearch};
 pub use split::OpenChild;
 pub use stop::{Never, Stop};
-pub use text_record::TextRecord;
+pub use text_record::{Hole, TextRecord};
