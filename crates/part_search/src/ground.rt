@@ -1,6 +1,6 @@
 //! What a search on parts needs regardless of the node.
 
-ghost use Rattle.std.specs.Prelude.{◌≡◌, ◌<◌, ◌≤ℤ◌, ◌<ℤ◌, ◌*ℤ◌, ℕ, ℤ, pos, All, IfOk, IfSome, MatchOption, map};
+ghost use Rattle.std.specs.Prelude.{◌≡◌, ◌<◌, ◌≤ℤ◌, ◌<ℤ◌, ◌*ℤ◌, ℕ, ℤ, pos, All, IfOk, IfSome, MatchOption, length, map};
 ghost use Rattle.std.specs.Arc.{arc_value};
 ghost use Rattle.dual_ascent.specs.AscentRange.{HasRange};
 ghost use Rattle.qap_cost.specs.Instance.{IsInstance, Problem};
@@ -21,7 +21,9 @@ use qap_symmetry::{Table, symmetries_of};
 use std::alloc::{AllocError, Global};
 use std::marker::Model;
 use std::sync::Arc;
-use subtree_search::{Incumbent, Never, OpenChild, Record, Subtree, SubtreeSearch, TextRecord};
+use subtree_search::{
+    Estimate, Incumbent, Never, OpenChild, Record, Subtree, SubtreeSearch, TextRecord,
+};
 
 /// An instance with the symmetries of its matrices, and the bounds by which its nodes are split. It is seen as the instance.
 #[derive(Drop)]
@@ -166,6 +168,36 @@ impl Ground {
                 split_by_rows(alloc, &parent, ranked, &mut splitter.rows, incumbent, aid)
             }
         }
+    }
+
+    /// Estimates, by this many random dives, how many nodes one search of the completions of a node evaluates from a
+    /// permutation on, under pair duals of that node. `None` if nodes are split by the bounds of Gilmore and Lawler.
+    pub fn estimate(
+        &self,
+        alloc: Global,
+        node: &Partial,
+        start: Perm,
+        dives: u32,
+    ) -> Result<Option<Estimate>, AllocError>
+        requires size { node.now.size ≡ self.now.size }
+        requires start { length start ≡ self.now.size }
+    {
+        let Bounds::Duals(known) = &self.bounds else {
+            return Ok(None);
+        };
+        let aid = Alone(&Never);
+        let duals = duals_at(alloc, &self.instance, node, known, &aid)?;
+        let subtree = Subtree {
+            instance: &self.instance,
+            node,
+            duals: &duals,
+            step: known.step,
+            flows: &self.flows,
+            distances: &self.distances,
+        };
+        let mut incumbent = Incumbent::new(&self.instance, start);
+        let found = SubtreeSearch::new(alloc).estimate(&subtree, &mut incumbent, dives)?;
+        Ok(Some(found))
     }
 
     /// Records a node as a leaf that is left open, if nodes are split by pair duals.

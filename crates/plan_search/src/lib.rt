@@ -1,6 +1,7 @@
 //! The search of a plan or an instance: a tabu search, the search for a proof that no arrangement costs less, and the limits of a run.
 #![tactic(auto)]
 
+mod estimating;
 mod hooks;
 mod improving;
 mod keeper;
@@ -14,6 +15,7 @@ mod standing;
 mod subtrees;
 mod tabu;
 
+pub use estimating::estimate_below;
 pub use hooks::Hooks;
 pub use improving::improved_below;
 pub use keeper::{Keeper, Progress};

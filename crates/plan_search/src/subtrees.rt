@@ -312,7 +312,7 @@ fn ground_for(
 }
 
 /// The least power of two that raises the cost to 2^15, and at most 2^16.
-fn scale_for(cost: i128) -> u32
+pub(crate) fn scale_for(cost: i128) -> u32
     ensures some { 0 < result }
 {
     let exponent = cost

@@ -8,6 +8,7 @@ pub mod ChargedOutcome
 pub mod Checking
 pub mod Comparing
 pub mod Converting
+pub mod Estimates
 pub mod NodeLines
 pub mod Outcome
 pub mod PartFiles

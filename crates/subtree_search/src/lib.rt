@@ -3,6 +3,7 @@
 #![tactic(auto)]
 
 mod dives;
+mod estimating;
 mod ground;
 mod images;
 mod incumbent;
@@ -19,6 +20,7 @@ mod text_record;
 mod threshold;
 mod trial;
 
+pub use estimating::Estimate;
 pub use incumbent::Incumbent;
 pub use outcome::Outcome;
 pub use record::{Record, Silent};
