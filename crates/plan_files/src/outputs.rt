@@ -1,12 +1,12 @@
 //! The files that a run writes, and what it prints. Each is written independently of the others; the most serious
 //! status wins.
 
-ghost use Rattle.std.specs.Prelude.{◌≡◌, ◌≤◌, ◌⊎◌, IfErr};
+ghost use Rattle.std.specs.Prelude.{◌≡◌, ◌≤◌, ◌⊎◌, ℕ, IfErr, IfOk, List};
 ghost use Rattle.plan_files.specs.Outputs.{IsFailure, severity};
 
 use crate::error::PlannerError;
-use crate::refusal::refuse_with;
 use crate::noting::Noting;
+use crate::refusal::refuse_with;
 use crate::sink::Sink;
 use crate::source::Source;
 use output_file::{Output, Place, file_id, open_output, reason};
@@ -221,7 +221,9 @@ enum Fault {
 }
 
 /// Writes a text to a file while it is made.
-fn fill<X: Source + Drop>(alloc: Global, file: File, source: X) -> Result<File, Fault> {
+fn fill<X: Source + Drop>(alloc: Global, file: File, source: X) -> Result<File, Fault>
+    ensures { IfOk result (λ _. (text : List ℕ) × X.tells source text) }
+{
     let writer = match BufWriter::with_capacity(alloc, CAPACITY, Noting::new(file)) {
         Ok(writer) => writer,
         Err(error) => return Err(Fault::Writer(error)),

@@ -108,7 +108,7 @@ where
             requires same_size { root.now.size ≡ instance.now.size }
             ensures searched { IfOk result (λ x. IsSearched instance.entry.now root.entry.now start.entry.now x.permutation x.cost x.bound) }
             ensures proof { IfOk result (λ x. x.proof ≡ None) }
-                {
+        {
             for number in 0..options.tabu_threads(root) {
                 // A search whose thread cannot be started is left out.
                 let _ = scope.spawn(move || others.search(number));

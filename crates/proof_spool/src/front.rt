@@ -23,7 +23,14 @@ fn write_front(
     claim: &Claim<'_>,
 ) -> Result<(), WriteError> {
     let mut line = Vec::new(alloc);
-    write_head(text, &mut line, b"qapproof", 2, claim.cost, claim.permutation)?;
+    write_head(
+        text,
+        &mut line,
+        b"qapproof",
+        2,
+        claim.cost,
+        claim.permutation,
+    )?;
     if claim.root.depth() > 0 {
         make_root(alloc, &mut line, claim.root)?;
         write_text(text, &line)?;

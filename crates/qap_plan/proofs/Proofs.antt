@@ -27,10 +27,10 @@ shows_of I IsRoot p c g (Pairs s) text spools told = inr (record {
   root = s.root;
   is_root = spools.root;
   shows =
-    subst (λ (J : Problem). ShowsProof J s.root p c g text) spools.instance
-    (subst (λ (q : List ℕ). ShowsProof s.instance s.root q c g text) spools.permutation
-    (subst (λ (z : ℤ). ShowsProof s.instance s.root s.permutation z g text) spools.cost
-    (subst (λ (z : ℤ). ShowsProof s.instance s.root s.permutation s.cost z text) spools.bound told)));
+      subst (λ (J : Problem). ShowsProof J s.root p c g text) spools.instance
+      (subst (λ (q : List ℕ). ShowsProof s.instance s.root q c g text) spools.permutation
+      (subst (λ (z : ℤ). ShowsProof s.instance s.root s.permutation z g text) spools.cost
+      (subst (λ (z : ℤ). ShowsProof s.instance s.root s.permutation s.cost z text) spools.bound told)));
 })
 shows_of I IsRoot p c g (Lost e) text h told = absurd told
 

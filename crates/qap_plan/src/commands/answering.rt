@@ -9,8 +9,8 @@ ghost use Rattle.plan_search.specs.Planning.{ProvesOver};
 ghost use Rattle.plan_files.specs.Starting.{starting_of};
 
 use crate::output::answer::answer_text;
-use plan_files::{PlannerError, read_problem, read_start};
 use part_search::Pieces;
+use plan_files::{PlannerError, read_problem, read_start};
 use plan_search::{Hooks, Keeper, Options, Planned, search};
 use qap_cost::Instance;
 use qap_io::{Counted, send};

@@ -19,5 +19,5 @@ returns-clause-proof g c =
     let told = c.proved-answer.ensures in
     let answer = c.proved-answer.result in
     IfSome_then answer.proof told.proof (λ a left.
-        makes_of P.instance (HasSame P.fixed) c.in_ok-root.root found answer.planned a c.in_ok-root.ensures.same told.permutation told.cost
-        (claims_kept P.instance P.fixed found.permutation found.cost found.bound found.proof c.in_ok-found.ensures.proof) left)
+    makes_of P.instance (HasSame P.fixed) c.in_ok-root.root found answer.planned a c.in_ok-root.ensures.same told.permutation told.cost
+    (claims_kept P.instance P.fixed found.permutation found.cost found.bound found.proof c.in_ok-found.ensures.proof) left)

@@ -28,5 +28,5 @@ returns-clause-proof g c =
     let answer = c.proved-answer.result in
     let root : c.in_ok-root.root ≡ root_of I.size = c.in_ok-root.ensures.value ∙ ap root_of c.size.ensures.value in
     IfSome_then answer.proof told.proof (λ a left.
-        makes_of I (Is (root_of I.size)) c.in_ok-root.root found answer.planned a root told.permutation told.cost
-        (claims_over I (root_of I.size) found.permutation found.cost found.bound found.proof c.in_ok-read.ensures.proof) left)
+    makes_of I (Is (root_of I.size)) c.in_ok-root.root found answer.planned a root told.permutation told.cost
+    (claims_over I (root_of I.size) found.permutation found.cost found.bound found.proof c.in_ok-read.ensures.proof) left)

@@ -90,11 +90,11 @@ returns-clause-proof g c =
     let front : p ≡ take x.size q = shorter.permutation ∙ ap (λ n. take n q) (c.size-n.ensures.value ∙ sym c.requires.size) in
     let longer : q ≡ extended_list r.charges.count p = c.restricted_law.ensures.shorter I J x y charges f q r kept.completes ∙ ap (extended_list r.charges.count) (sym front) in
     IfSome_then c.proved-whole.result.proof told.proof (λ a left text of_text.
-        let makes = makes_of J (HasSame y) c.in_ok-root.root found whole a c.in_ok-root.ensures.same told.permutation told.cost
-            (claims_kept J y found.permutation found.cost found.bound found.proof c.in_ok-found.ensures.proof) left text of_text in
-        record {
-          problem = J;
-          node = y;
-          restricts = r;
-          shows = charged_text J (HasSame y) whole last (extended_list r.charges.count p) text longer shorter.cost shorter.bound makes;
-        })
+    let makes = makes_of J (HasSame y) c.in_ok-root.root found whole a c.in_ok-root.ensures.same told.permutation told.cost
+    (claims_kept J y found.permutation found.cost found.bound found.proof c.in_ok-found.ensures.proof) left text of_text in
+    record {
+      problem = J;
+      node = y;
+      restricts = r;
+      shows = charged_text J (HasSame y) whole last (extended_list r.charges.count p) text longer shorter.cost shorter.bound makes;
+    })
