@@ -1,4 +1,4 @@
-use Rattle.std.proofs.Common.{◌≡◌, List, ℕ, ℤ, of_z, rules, subst, sym, to_z}
+use Rattle.std.proofs.Common.{◌≡◌, ◌∙◌, List, ℕ, ℤ, of_z, rules, subst, sym, to_z}
 use Rattle.std.specs.Prelude.{Option}
 use Rattle.std.specs.Int.{w128}
 use Rattle.std.proofs.lemmas.Result.{err_from_is_err_and}
@@ -6,7 +6,6 @@ use Rattle.qap_cost.specs.Range.{IsLimited}
 use Rattle.qap_lines.specs.Bound.{IsBoundFor}
 use Rattle.proof_tree.specs.Claim.{pair_claim}
 use Rattle.proof_check.specs.Acceptance.{IsPairVerdictOf, ReadsLeaves}
-use Rattle.proof_check.specs.Fault.{RefusesPairs}
 use Rattle.proof_check.proofs.Accepting.{ReadsLeaves-copied, ReadsVerdict-leaves, RefusesNoProof-pairs}
 use Rattle.proof_check.proofs.acceptance.accept.Goals as goal
 
@@ -41,9 +40,9 @@ pub returns-in_err-checked-clause-refused : goal.returns-in_err-checked-clause-r
 returns-in_err-checked-clause-refused g c =
     let e = err_from_is_err_and c.from_residual.result c.from_residual.ensures.1 in
     let I = c.args.instance.now in
-    rw (e.1, e.2) (RefusesNoProof-pairs I _ _ (subst (λ (o : Option (List ℕ)). RefusesPairs I o _) c.new-reader.ensures.left (c.in_err-checked.ensures {u = tt}).fault))
+    rw (e.1, e.2) (RefusesNoProof-pairs I _ _ (λ text is. (c.in_err-checked.ensures {u = tt}).fault text (c.new-reader.ensures.left ∙ is)))
 
 pub returns-in_err-checked-clause-fault : goal.returns-in_err-checked-clause-fault
 returns-in_err-checked-clause-fault g c =
     let e = err_from_is_err_and c.from_residual.result c.from_residual.ensures.1 in
-    rw (e.1, e.2) (subst (λ (o : Option (List ℕ)). RefusesPairs c.args.instance.now o _) c.new-reader.ensures.left (c.in_err-checked.ensures {u = tt}).fault)
+    rw (e.1, e.2) (λ text is. (c.in_err-checked.ensures {u = tt}).fault text (c.new-reader.ensures.left ∙ is))
