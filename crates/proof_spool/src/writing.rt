@@ -1,6 +1,6 @@
 //! Writes the text of a proof, from its pieces, and checks it as it is written.
 
-ghost use Rattle.std.specs.Prelude.{◌≡◌, ⊤, MatchOption, OnOk};
+ghost use Rattle.std.specs.Prelude.{◌≡◌, ⊥, MatchOption, OnOk};
 ghost use Rattle.proof_spool.specs.Writing.{WritesProof};
 
 use crate::assembly::assembly;
@@ -22,8 +22,8 @@ pub struct Claim<'a> {
     pub bound: i128,
 }
 
-/// Writes the text of a proof with this tree. It is written only as far as it is that of a proof which establishes this of
-/// the instance. The writer is returned in any case.
+/// Writes the text of a proof with this tree, and checks it as it is written. `Ok` says that it is that of a proof which
+/// establishes this of the instance; after an error, what was written is to be dropped. The writer is returned in any case.
 pub fn write_checked<F: Read + Seek + Drop, W: Write>(
     alloc: Global,
     instance: &Instance,
@@ -57,7 +57,7 @@ pub fn write_checked<F: Read + Seek + Drop, W: Write>(
 fn difference(checked: &Checked, claim: &Claim<'_>) -> Option<ProofError>
     ensures { MatchOption result
         ((checked.now.root ≡ claim.now.root.now) × (checked.now.permutation ≡ claim.now.permutation.now) × (checked.now.cost ≡ claim.now.cost) × (checked.now.bound ≡ claim.now.bound))
-        (λ e. ⊤) }
+        (λ _. ((checked.now.root ≡ claim.now.root.now) × (checked.now.permutation ≡ claim.now.permutation.now) × (checked.now.cost ≡ claim.now.cost) × (checked.now.bound ≡ claim.now.bound)) → ⊥) }
 {
     if checked.cost != claim.cost {
         return Some(ProofError::CostDiffers(3));

@@ -63,7 +63,8 @@ pub fn copy_stream<R: BufRead, W: Write>(
     instance: &Instance,
     reader: &mut Tee<R, W>,
 ) -> Result<Checked, ProofError>
-    ensures { IfOk result (λ c. CopiesLeaves instance.now reader.old reader.new c.root c.cost c.bound c.bound c.permutation c.leaves.items) }
+    ensures copied { IfOk result (λ c. CopiesLeaves instance.now reader.old reader.new c.root c.cost c.bound c.bound c.permutation c.leaves.items) }
+    ensures refused { IfErr result (StreamRefuses instance.now reader.old.left) }
 {
     accept_copied(alloc, instance, step(instance), reader)
 }

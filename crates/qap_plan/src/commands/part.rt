@@ -13,7 +13,7 @@ use crate::commands::command_line::{columns_in, ignore_rest, time_limit, with_li
 use crate::commands::ending::put_proof;
 use crate::output::outcome::status_of;
 use crate::output::progress::{Teller, telling_of};
-use crate::output::proof_file::{Proved, proved};
+use crate::output::proof_file::{Proved, with_proof};
 use crate::search::spooling::{RunHooks, spool_for};
 use clap::{Arg, ArgMatches, Command};
 use plan_files::{
@@ -301,7 +301,7 @@ where
     let found = search_below(system, alloc, instance, node, &posed.start, options, hooks);
     hooks.keeper.finish();
     let found = found?;
-    let answer = proved(alloc, instance, node, found, hooks.pieces);
+    let answer = with_proof(alloc, instance, node, found, hooks.pieces);
     Ok(answer)
 }
 

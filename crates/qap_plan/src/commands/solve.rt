@@ -14,7 +14,7 @@ use crate::commands::ending::write_outputs;
 use crate::commands::solve_restricted::solve_restricted;
 use crate::output::plan_outcome::PlanOutcome;
 use crate::output::progress::{Teller, telling_of};
-use crate::output::proof_file::{Proved, proved};
+use crate::output::proof_file::{Proved, with_proof};
 use crate::search::spooling::{RunHooks, spool_for};
 use plan_file::{NamedProblem, ascending};
 use plan_files::{
@@ -176,7 +176,7 @@ where
     let found = search_keeping(system, alloc, instance, fixed, first, options, hooks);
     hooks.keeper.finish();
     let found = found?;
-    let answer = proved(alloc, instance, &root, found, hooks.pieces);
+    let answer = with_proof(alloc, instance, &root, found, hooks.pieces);
     Ok(answer)
 }
 

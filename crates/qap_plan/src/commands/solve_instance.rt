@@ -15,7 +15,7 @@ use crate::commands::command_line::Request;
 use crate::commands::ending::{faulty_file, write_outputs};
 use crate::output::found_outcome::FoundOutcome;
 use crate::output::progress::{Teller, telling_of};
-use crate::output::proof_file::{Proved, proved};
+use crate::output::proof_file::{Proved, with_proof};
 use crate::search::spooling::{RunHooks, spool_for};
 use plan_files::{Misuse, Outputs, PlannerError, Refusal, Sink, bytes_in, ended};
 use plan_input::{Disk, Texts};
@@ -136,7 +136,7 @@ where
 {
     let read = searched(system, alloc, request, instance, start, hooks)?;
     let root = Partial::root(alloc, read.0.size())?;
-    let answer = proved(alloc, &read.0, &root, read.1, hooks.pieces);
+    let answer = with_proof(alloc, &read.0, &root, read.1, hooks.pieces);
     Ok((read.0, answer))
 }
 

@@ -120,7 +120,7 @@ pub fn text_of_proof(alloc: Global, proof: &Proof) -> Result<Vec<u8>, PlannerErr
 
 /// What a search below a root has found, with its proof if one was requested. One with pair duals, from the pieces that the
 /// search has left, has the least bound that an open leaf reaches: that is the bound then.
-pub fn proved<T: Wait>(
+pub fn with_proof<T: Wait>(
     alloc: Global,
     instance: &Instance,
     root: &Partial,

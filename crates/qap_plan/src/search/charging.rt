@@ -8,7 +8,7 @@ ghost use Rattle.qap_cost.specs.Bijection.{IsPerm};
 ghost use Rattle.qap_plan.specs.Proofs.{MakesCharged};
 ghost use Rattle.plan_search.specs.Options.{AreLimited};
 
-use crate::output::proof_file::{Proved, proved};
+use crate::output::proof_file::{Proved, with_proof};
 use crate::search::spooling::RunHooks;
 use plan_charge::{extended_permutation, front, restricted_law};
 use plan_file::ascending;
@@ -58,7 +58,7 @@ where
         options,
         hooks,
     )?;
-    let whole = proved(alloc, &searched.instance, &root, found, hooks.pieces);
+    let whole = with_proof(alloc, &searched.instance, &root, found, hooks.pieces);
     let shorter = shortened(whole.planned, n)?;
     Ok(Proved {
         planned: shorter,

@@ -9,8 +9,8 @@ returns g c =
     let p = c.args.posed.now in
     let I = p.searched.instance in
     let found = c.in_ok-found.found in
-    let told = c.proved-answer.ensures in
-    let answer = c.proved-answer.result in
+    let told = c.with_proof-answer.ensures in
+    let answer = c.with_proof-answer.result in
     record {
       searched = searched_below I p.node p.start found answer.planned told.permutation told.cost told.bound c.in_ok-found.ensures.searched;
       proof = IfSome_then answer.proof told.proof (λ a left.

@@ -9,7 +9,7 @@ use Rattle.qap_plan.proofs.commands.solve_instance.found.Goals as goal
 pub returns-clause-found : goal.returns-clause-found
 returns-clause-found g c =
     let h = c.in_ok-read.ensures.found in
-    let told = c.proved-answer.ensures in
+    let told = c.with_proof-answer.ensures in
     let found = c.in_ok-read.read.1 in
     record {
       start = h.start;
@@ -17,15 +17,15 @@ returns-clause-found g c =
       read = h.read;
       of_bytes = h.of_bytes;
       begins = h.begins;
-      planned = planned_below c.in_ok-read.read.0 h.start found c.proved-answer.result.planned told.permutation told.cost told.bound h.planned;
+      planned = planned_below c.in_ok-read.read.0 h.start found c.with_proof-answer.result.planned told.permutation told.cost told.bound h.planned;
     }
 
 pub returns-clause-proof : goal.returns-clause-proof
 returns-clause-proof g c =
     let I = c.in_ok-read.read.0 in
     let found = c.in_ok-read.read.1 in
-    let told = c.proved-answer.ensures in
-    let answer = c.proved-answer.result in
+    let told = c.with_proof-answer.ensures in
+    let answer = c.with_proof-answer.result in
     let root : c.in_ok-root.root ≡ root_of I.size = c.in_ok-root.ensures.value ∙ ap root_of c.size.ensures.value in
     IfSome_then answer.proof told.proof (λ a left.
     makes_of I (Is (root_of I.size)) c.in_ok-root.root found answer.planned a root told.permutation told.cost

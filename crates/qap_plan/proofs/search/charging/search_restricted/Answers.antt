@@ -34,10 +34,10 @@ shortened-requires-clause-front g c =
     let J = c.in_ok-searched.searched.instance in
     let y = c.in_ok-searched.searched.node in
     let first = c.in_ok-first.first in
-    let whole = c.proved-whole.result.planned in
+    let whole = c.with_proof-whole.result.planned in
     let q = whole.permutation in
     let r = c.in_ok-searched.ensures in
-    let told = c.proved-whole.ensures in
+    let told = c.with_proof-whole.ensures in
     let kept = kept_below J y (Some first) c.in_ok-found.found whole told.permutation told.cost told.bound c.in_ok-found.ensures.kept in
     let is = first-is I J x y charges f start first c.size-n.result c.size.result r c.size-n.ensures.value c.size.ensures.value c.in_ok-first.ensures in
     let begun : Completes y first = subst (Completes y) (sym is) (c.restricted_law.ensures.longer I J x y charges f start r c.requires.start) in
@@ -55,10 +55,10 @@ returns-clause-charged g c =
     let J = c.in_ok-searched.searched.instance in
     let y = c.in_ok-searched.searched.node in
     let first = c.in_ok-first.first in
-    let whole = c.proved-whole.result.planned in
+    let whole = c.with_proof-whole.result.planned in
     let q = whole.permutation in
     let r = c.in_ok-searched.ensures in
-    let told = c.proved-whole.ensures in
+    let told = c.with_proof-whole.ensures in
     let kept = kept_below J y (Some first) c.in_ok-found.found whole told.permutation told.cost told.bound c.in_ok-found.ensures.kept in
     let is = first-is I J x y charges f start first c.size-n.result c.size.result r c.size-n.ensures.value c.size.ensures.value c.in_ok-first.ensures in
     let begun : Completes y first = subst (Completes y) (sym is) (c.restricted_law.ensures.longer I J x y charges f start r c.requires.start) in
@@ -78,10 +78,10 @@ returns-clause-proof g c =
     let J = c.in_ok-searched.searched.instance in
     let y = c.in_ok-searched.searched.node in
     let first = c.in_ok-first.first in
-    let whole = c.proved-whole.result.planned in
+    let whole = c.with_proof-whole.result.planned in
     let q = whole.permutation in
     let r = c.in_ok-searched.ensures in
-    let told = c.proved-whole.ensures in
+    let told = c.with_proof-whole.ensures in
     let kept = kept_below J y (Some first) c.in_ok-found.found whole told.permutation told.cost told.bound c.in_ok-found.ensures.kept in
     let found = c.in_ok-found.found in
     let shorter = c.in_ok-shorter.ensures in
@@ -89,7 +89,7 @@ returns-clause-proof g c =
     let p = last.permutation in
     let front : p ≡ take x.size q = shorter.permutation ∙ ap (λ n. take n q) (c.size-n.ensures.value ∙ sym c.requires.size) in
     let longer : q ≡ extended_list r.charges.count p = c.restricted_law.ensures.shorter I J x y charges f q r kept.completes ∙ ap (extended_list r.charges.count) (sym front) in
-    IfSome_then c.proved-whole.result.proof told.proof (λ a left text of_text.
+    IfSome_then c.with_proof-whole.result.proof told.proof (λ a left text of_text.
     let makes = makes_of J (HasSame y) c.in_ok-root.root found whole a c.in_ok-root.ensures.same told.permutation told.cost
     (claims_kept J y found.permutation found.cost found.bound found.proof c.in_ok-found.ensures.proof) left text of_text in
     record {
