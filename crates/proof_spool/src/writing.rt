@@ -1,6 +1,6 @@
 //! Writes the text of a proof, from its pieces, and checks it as it is written.
 
-ghost use Rattle.std.specs.Prelude.{◌≡◌, ⊥, MatchOption, OnOk};
+ghost use Rattle.std.specs.Prelude.{◌≡◌, MatchOption, OnOk};
 ghost use Rattle.proof_spool.specs.Writing.{WritesProof};
 
 use crate::assembly::assembly;
