@@ -1,5 +1,5 @@
 -- The proof of an answer, and its text.
-use Rattle.std.specs.Prelude.{◌≡◌, ◌↔◌, ◌⊎◌, ⊤, ⊥, ℕ, ℤ, List, Some}
+use Rattle.std.specs.Prelude.{◌≡◌, ◌↔◌, ◌⊎◌, ⊤, ℕ, ℤ, List, Some}
 use Rattle.qap_cost.specs.Instance.{Problem}
 use Rattle.qap_cost.specs.Placement.{Completes, Placement}
 use Rattle.qap_proof.specs.Claim.{Claim, IsProof, Proves}

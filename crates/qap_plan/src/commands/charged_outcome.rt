@@ -57,7 +57,8 @@ impl Outcome for ChargedOutcome<'_> {
     }
 
     fn into_proof(self) -> Option<AnswerProof> {
-        self.answer.proof
+        let ChargedOutcome { answer, .. } = self;
+        answer.proof
     }
 }
 

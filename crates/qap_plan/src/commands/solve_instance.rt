@@ -135,9 +135,10 @@ where
     ensures proof { IfOk result (λ a. IfSome a.1.proof (MakesFor a.0 (Is (root_of a.0.size)) a.1.planned.permutation a.1.planned.cost a.1.planned.bound)) }
 {
     let read = searched(system, alloc, request, instance, start, hooks)?;
-    let root = Partial::root(alloc, read.0.size())?;
-    let answer = with_proof(alloc, &read.0, &root, read.1, hooks.pieces);
-    Ok((read.0, answer))
+    let (problem, found) = read;
+    let root = Partial::root(alloc, problem.size())?;
+    let answer = with_proof(alloc, &problem, &root, found, hooks.pieces);
+    Ok((problem, answer))
 }
 
 /// An instance, and what its search finds, from a start if there is one.
