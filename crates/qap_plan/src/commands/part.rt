@@ -309,15 +309,15 @@ where
 fn write_part<S: Sink>(alloc: Global, sink: &mut S, file: &str, found: Proved) -> Status
     ensures { IsSuccess result → WritesPart S.writes S.prints file.now found result sink.old sink.new }
 {
-    let (cost, bound) = (found.planned.cost, found.planned.bound);
-    let Some(proof) = found.proof else {
+    let Proved { planned, proof } = found;
+    let Some(proof) = proof else {
         return sink.refuse(file, PlannerError::NoProof);
     };
     let written = put_proof(alloc, sink, file, proof);
     if written != Status::Done {
         return written;
     }
-    tell(alloc, sink, cost, bound, "")
+    tell(alloc, sink, planned.cost, planned.bound, "")
 }
 
 /// Prints what the proof of the part establishes, and returns how the run ends.
