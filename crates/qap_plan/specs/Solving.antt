@@ -42,11 +42,9 @@ pub record TellsPart {S : Type 0} (Prints : S → List ℕ → S → Type 0) (co
 -- from a sink to a sink by the text of the proof of a part, and the line on it
 pub record WritesPart {S : Type 0} (Writes : S → List ℕ → List ℕ → S → Type 0) (Prints : S → List ℕ → S → Type 0) (file : List ℕ) (a : Proved) (status : Status) (old new : S) : Type 0 where
   pub proof : AnswerProof
-  pub text : List ℕ
   pub written : S
   pub is : a.proof ≡ Some proof
-  pub told : TellsProof proof text
-  pub writes : Writes old file text written
+  pub puts : (text : List ℕ) × TellsProof proof text × Writes old file text written
   pub tells : TellsPart Prints a.planned.cost a.planned.bound [] status written new
 
 -- from a sink to a sink by the line on a proof that is kept, with the lesser of its cost and the start's

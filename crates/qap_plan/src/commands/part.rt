@@ -313,11 +313,10 @@ fn write_part<S: Sink>(alloc: Global, sink: &mut S, file: &str, found: Proved) -
     let Some(proof) = proof else {
         return sink.refuse(file, PlannerError::NoProof);
     };
-    let written = put_proof(alloc, sink, file, proof);
-    if written != Status::Done {
-        return written;
+    match put_proof(alloc, sink, file, proof) {
+        Status::Done => tell(alloc, sink, planned.cost, planned.bound, ""),
+        failed => failed,
     }
-    tell(alloc, sink, planned.cost, planned.bound, "")
 }
 
 /// Prints what the proof of the part establishes, and returns how the run ends.

@@ -11,10 +11,10 @@ returns g c = λ success.
     let written = c.write_part.ensures success in
     record {
       found = planned;
-      text = written.text;
+      text = written.puts.0;
       written = written.written;
       searched = solved.searched;
-      shows = makes_in p.searched.instance (Is p.node) planned.permutation planned.cost planned.bound found.proof written.proof written.is solved.proof written.text written.told;
-      writes = written.writes;
+      shows = makes_in p.searched.instance (Is p.node) planned.permutation planned.cost planned.bound found.proof written.proof written.is solved.proof written.puts.0 written.puts.1;
+      writes = written.puts.2;
       tells = written.tells;
     }
