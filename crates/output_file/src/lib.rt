@@ -6,5 +6,5 @@ mod output;
 mod system_error;
 
 pub use opening::open_output;
-pub use output::{FileId, Output, file_id};
+pub use output::{FileId, Output, Place, file_id};
 pub use system_error::reason;

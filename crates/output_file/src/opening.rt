@@ -70,7 +70,7 @@ fn open_beside<R: Files + AllocGlobal>(
     target: String,
     permissions: Option<Permissions>,
 ) -> io::Result<Output<R::File>> {
-    let (_file, part) = create_fresh(rt, target.as_str())?;
+    let (_file, part) = create_fresh(rt, target.as_str(), false)?;
     fs::remove_file(rt, part.as_str())?;
     let earlier = file_id(rt, target.as_str());
     Ok(Output {
@@ -81,14 +81,16 @@ fn open_beside<R: Files + AllocGlobal>(
     })
 }
 
-/// A new file beside the target, and its name: the first that nothing has yet.
+/// A new file beside the target, which may be read too, and its name: the first that nothing has yet.
 pub(crate) fn create_fresh<R: Files + AllocGlobal>(
     rt: &R,
     target: &str,
+    is_read: bool,
 ) -> io::Result<(R::File, String)> {
     for number in 1..=TRIES {
         let name = fresh_name(rt.alloc(), target, number)?;
         match OpenOptions::new()
+            .read(is_read)
             .write(true)
             .create_new(true)
             .open(rt, name.as_str())

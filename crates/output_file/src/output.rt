@@ -5,10 +5,14 @@ ghost use Rattle.std.specs.Io.KnownBytes.{Appends};
 ghost use Rattle.output_file.specs.Output.{IsSameFile, IsSamePlace};
 
 use crate::opening::create_fresh;
+use std::env::{self, Env};
 use std::fs::{self, Files, OpenFile, Permissions};
 use std::io::{self, Write};
 use std::marker::Model;
 use std::os::unix::fs::MetadataExt;
+
+/// What the name of a file in the folder for temporary files begins with.
+const SCRATCH: &str = "scratch";
 
 /// The identity of a file, regardless of its name.
 #[derive(Clone, Copy, Debug, PartialEq, Eq)]
@@ -72,36 +76,89 @@ impl<F: Write + OpenFile + Drop> Output<F> {
     }
 
     /// Writes the text and puts the file in its place. At an error the place is unchanged.
-    pub fn put<R: Files + AllocGlobal>(self, rt: &R, text: &[u8]) -> io::Result<()> {
+    pub fn put<R: Files<File = F> + AllocGlobal>(self, rt: &R, text: &[u8]) -> io::Result<()> {
+        let (mut file, place) = self.begin(rt)?;
+        match fill(&mut file, text) {
+            Ok(()) => place.settle(rt, file),
+            Err(error) => {
+                place.cancel(rt);
+                Err(error)
+            }
+        }
+    }
+
+    /// Opens the file to write its text to, which is then put in its place or dropped.
+    pub fn begin<R: Files<File = F> + AllocGlobal>(self, rt: &R) -> io::Result<(F, Place)> {
         let Output {
             target,
             device,
             permissions,
             earlier: _,
         } = self;
-        match device {
-            Some(mut device) => fill(&mut device, text),
-            None => replace_whole(rt, target.as_str(), permissions, text),
+        if let Some(device) = device {
+            return Ok((device, Place { target, part: None }));
+        }
+        let (file, part) = create_fresh(rt, target.as_str(), false)?;
+        let place = Place {
+            target,
+            part: Some(part),
+        };
+        match permit(&file, permissions) {
+            Ok(()) => Ok((file, place)),
+            Err(error) => {
+                place.cancel(rt);
+                Err(error)
+            }
+        }
+    }
+
+    /// A file for what is needed until the output is written, which no name refers to: beside the place of a regular file.
+    pub fn scratch<R: Files<File = F> + AllocGlobal + Env>(&self, rt: &R) -> io::Result<F> {
+        if self.device.is_none() {
+            return nameless(rt, self.target.as_str());
+        }
+        let folder = env::temp_dir(rt)?;
+        nameless(rt, folder.join(rt.alloc(), SCRATCH)?.as_str())
+    }
+}
+
+/// Where the text of a file goes once it is written: over the target if it was written beside it, nowhere if it is a device.
+#[derive(Drop)]
+pub struct Place {
+    target: String,
+    /// The name of the file beside the target.
+    part: Option<String>,
+}
+
+impl Place {
+    /// Has the system store the file, whose text is written, and puts it in its place. At an error the place is unchanged.
+    pub fn settle<R: Files + AllocGlobal>(self, rt: &R, mut file: R::File) -> io::Result<()> {
+        let Some(part) = &self.part else {
+            return file.flush();
+        };
+        let placed = match store(file) {
+            Ok(()) => fs::rename(rt, part.as_str(), self.target.as_str()),
+            Err(error) => Err(error),
+        };
+        if placed.is_err() {
+            self.cancel(rt);
+        }
+        placed
+    }
+
+    /// Removes what was written, except to a device.
+    pub fn cancel<R: Files>(self, rt: &R) {
+        if let Some(part) = &self.part {
+            let _ = fs::remove_file(rt, part.as_str());
         }
     }
 }
 
-/// Writes the text to a new file beside the target, with these permissions, if any, and puts it in the target's place.
-fn replace_whole<R: Files + AllocGlobal>(
-    rt: &R,
-    target: &str,
-    permissions: Option<Permissions>,
-    text: &[u8],
-) -> io::Result<()> {
-    let (file, part) = create_fresh(rt, target)?;
-    let placed = match fill_and_sync(file, permissions, text) {
-        Ok(()) => fs::rename(rt, part.as_str(), target),
-        Err(error) => Err(error),
-    };
-    if placed.is_err() {
-        let _ = fs::remove_file(rt, part.as_str());
-    }
-    placed
+/// A new file beside a target, that is read and written, without a name.
+fn nameless<R: Files + AllocGlobal>(rt: &R, target: &str) -> io::Result<R::File> {
+    let (file, part) = create_fresh(rt, target, true)?;
+    fs::remove_file(rt, part.as_str())?;
+    Ok(file)
 }
 
 /// Whether the same file was in both places.
@@ -122,15 +179,16 @@ fn fill<F: Write>(file: &mut F, text: &[u8]) -> io::Result<()>
     file.flush()
 }
 
-/// Gives a file its permissions, writes the whole text to it and has the system store it.
-fn fill_and_sync<F: Write + OpenFile + Drop>(
-    mut file: F,
-    permissions: Option<Permissions>,
-    text: &[u8],
-) -> io::Result<()> {
-    if let Some(permissions) = permissions {
-        file.set_permissions(permissions)?;
+/// Gives a file these permissions, if any.
+fn permit<F: OpenFile>(file: &F, permissions: Option<Permissions>) -> io::Result<()> {
+    match permissions {
+        Some(permissions) => file.set_permissions(permissions),
+        None => Ok(()),
     }
-    fill(&mut file, text)?;
+}
+
+/// Has the system store what was written to a file.
+fn store<F: Write + OpenFile + Drop>(mut file: F) -> io::Result<()> {
+    file.flush()?;
     file.sync_all()
 }

@@ -1,6 +1,6 @@
 //! What a search on parts needs regardless of the node.
 
-ghost use Rattle.std.specs.Prelude.{◌≡◌, ◌<◌, ◌≤ℤ◌, ◌<ℤ◌, ◌*ℤ◌, ℕ, ℤ, pos, All, IfOk, IfSome, MatchOption, map};
+ghost use Rattle.std.specs.Prelude.{◌≡◌, ◌<◌, ◌≤ℤ◌, ◌<ℤ◌, ◌*ℤ◌, ℕ, ℤ, pos, All, IfOk, IfSome, MatchOption, length, map};
 ghost use Rattle.std.specs.Arc.{arc_value};
 ghost use Rattle.dual_ascent.specs.AscentRange.{HasRange};
 ghost use Rattle.qap_cost.specs.Instance.{IsInstance, Problem};
@@ -10,7 +10,7 @@ ghost use Rattle.subtree_search.specs.Opens.{IsOpen, IsSettled, node_of};
 ghost use Rattle.part_search.specs.Ground.{IsChildValue, IsFreeChild, IsKnown, IsParent, IsSplitter, StandFor};
 ghost use Rattle.part_search.specs.Tuples.{open_of};
 
-use crate::aid::Aid;
+use crate::aid::{Aid, Alone};
 use crate::open_node::Open;
 use dual_ascent::{Effort, ascend_softly, has_range};
 use gilmore_lawler::RankedInstance;
@@ -21,7 +21,9 @@ use qap_symmetry::{Table, symmetries_of};
 use std::alloc::{AllocError, Global};
 use std::marker::Model;
 use std::sync::Arc;
-use subtree_search::{Incumbent, OpenChild, Subtree, SubtreeSearch};
+use subtree_search::{
+    Estimate, Incumbent, Never, OpenChild, Record, Subtree, SubtreeSearch, TextRecord,
+};
 
 /// An instance with the symmetries of its matrices, and the bounds by which its nodes are split. It is seen as the instance.
 #[derive(Drop)]
@@ -132,14 +134,16 @@ impl Ground {
         &self.instance
     }
 
-    /// Splits an open node by its bounds; the children that remain open cover it at the cost of the incumbent.
-    pub(crate) fn split<S: Aid>(
+    /// Splits an open node by its bounds; the children that remain open cover it at the cost of the incumbent. A split by pair
+    /// duals is recorded.
+    pub(crate) fn split<S: Aid, W: Record>(
         &self,
         alloc: Global,
         splitter: &mut Splitter,
         at: &Open,
         incumbent: &mut Incumbent,
         aid: &S,
+        record: &mut W,
     ) -> Result<Vec<Open>, AllocError>
         requires size { at.now.node.size ≡ self.now.size }
         requires splitter { IsSplitter self.now splitter.old }
@@ -157,12 +161,69 @@ impl Ground {
         };
         match &self.bounds {
             Bounds::Duals(known) => {
-                split_by_duals(alloc, &parent, known, &mut splitter.search, incumbent, aid)
+                let search = &mut splitter.search;
+                split_by_duals(alloc, &parent, known, search, incumbent, aid, record)
             }
             Bounds::Rows(ranked) => {
                 split_by_rows(alloc, &parent, ranked, &mut splitter.rows, incumbent, aid)
             }
         }
+    }
+
+    /// Estimates, by this many random dives, how many nodes one search of the completions of a node evaluates from a
+    /// permutation on, under pair duals of that node. `None` if nodes are split by the bounds of Gilmore and Lawler.
+    pub fn estimate(
+        &self,
+        alloc: Global,
+        node: &Partial,
+        start: Perm,
+        dives: u32,
+    ) -> Result<Option<Estimate>, AllocError>
+        requires size { node.now.size ≡ self.now.size }
+        requires start { length start ≡ self.now.size }
+    {
+        let Bounds::Duals(known) = &self.bounds else {
+            return Ok(None);
+        };
+        let aid = Alone(&Never);
+        let duals = duals_at(alloc, &self.instance, node, known, &aid)?;
+        let subtree = Subtree {
+            instance: &self.instance,
+            node,
+            duals: &duals,
+            step: known.step,
+            flows: &self.flows,
+            distances: &self.distances,
+        };
+        let mut incumbent = Incumbent::new(&self.instance, start);
+        let found = SubtreeSearch::new(alloc).estimate(&subtree, &mut incumbent, dives)?;
+        Ok(Some(found))
+    }
+
+    /// Records a node as a leaf that is left open, if nodes are split by pair duals.
+    pub(crate) fn leave(
+        &self,
+        alloc: Global,
+        node: &Partial,
+        incumbent: &Incumbent,
+        record: &mut TextRecord,
+    ) -> Result<(), AllocError>
+        requires { node.now.size ≡ self.now.size }
+    {
+        let Bounds::Duals(known) = &self.bounds else {
+            return Ok(());
+        };
+        let aid = Alone(&Never);
+        let duals = duals_at(alloc, &self.instance, node, known, &aid)?;
+        let subtree = Subtree {
+            instance: &self.instance,
+            node,
+            duals: &duals,
+            step: known.step,
+            flows: &self.flows,
+            distances: &self.distances,
+        };
+        SubtreeSearch::new(alloc).leave(&subtree, incumbent, record)
     }
 }
 
@@ -176,13 +237,14 @@ pub(crate) struct Parent<'a> {
 }
 
 /// Splits an open node under pair duals of its own and tries its children.
-fn split_by_duals<S: Aid>(
+fn split_by_duals<S: Aid, W: Record>(
     alloc: Global,
     parent: &Parent<'_>,
     known: &RootDuals,
     search: &mut SubtreeSearch,
     incumbent: &mut Incumbent,
     aid: &S,
+    record: &mut W,
 ) -> Result<Vec<Open>, AllocError>
     requires parent { IsParent parent.now }
     requires known { IsKnown parent.now.instance.now known.now }
@@ -193,7 +255,7 @@ fn split_by_duals<S: Aid>(
 {
     let node = &parent.at.node;
     let duals = duals_at(alloc, parent.instance, node, known, aid)?;
-    let opens = split_under(alloc, parent, known, &duals, search, incumbent, aid)?;
+    let opens = split_under(alloc, parent, known, &duals, search, incumbent, aid, record)?;
     if !opens.is_empty() {
         aid.keep(node, duals)?;
     }
@@ -224,7 +286,7 @@ fn duals_at<S: Aid>(
 }
 
 /// Splits an open node under these pair duals.
-fn split_under<S: Aid>(
+fn split_under<S: Aid, W: Record>(
     alloc: Global,
     parent: &Parent<'_>,
     known: &RootDuals,
@@ -232,6 +294,7 @@ fn split_under<S: Aid>(
     search: &mut SubtreeSearch,
     incumbent: &mut Incumbent,
     aid: &S,
+    record: &mut W,
 ) -> Result<Vec<Open>, AllocError>
     requires parent { IsParent parent.now }
     requires known { IsKnown parent.now.instance.now known.now }
@@ -251,7 +314,7 @@ fn split_under<S: Aid>(
         flows: parent.flows,
         distances: parent.distances,
     };
-    let children = search.split(&subtree, incumbent, aid)?;
+    let children = search.split(&subtree, incumbent, aid, record)?;
     children_of(alloc, parent.at, &children, duals.scale())
 }
 

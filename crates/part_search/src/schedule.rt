@@ -21,7 +21,7 @@ use std::alloc::{AllocError, Global};
 use std::marker::{Brand, Model};
 use std::sync::Arc;
 use std::sync::ledger::Blank;
-use subtree_search::{Incumbent, Stop};
+use subtree_search::{Incumbent, Silent, Stop};
 
 /// How many milliseconds a transaction of a schedule may take.
 const LEASE_MS: u64 = 1000;
@@ -159,7 +159,7 @@ fn turn_of<L: Law, S: Stop>(
     ensures job { worker.new.job ≡ worker.old.job }
 {
     step_of(worker, share, room)?;
-    worker.try_node(&aid::Alone(stop))
+    worker.try_node(&aid::Alone(stop), &mut Silent)
 }
 
 /// The worker's next step, as one of the machine.

@@ -1,11 +1,12 @@
 //! A worker with its share, and its run on a shared space.
 
-ghost use Rattle.std.specs.Prelude.{◌≡◌, true};
+ghost use Rattle.std.specs.Prelude.{◌≡◌, OnErr, true};
 ghost use Rattle.part_search.specs.Worker.{Allows, IsIdle, IsLeaving, Leaves};
 
 use crate::aid::Aid;
 use crate::board::{Board, Wanted};
 use crate::offers::Offers;
+use crate::pieces::Pieces;
 use crate::threads::Order;
 use crate::trying::Trial;
 use crate::values::Values;
@@ -18,7 +19,7 @@ use std::marker::Model;
 use std::sync::atomic::{AtomicBool, AtomicU64, Ordering};
 use std::sync::{Arc, Mutex, Wait};
 use std::time::{self, Duration, Instant};
-use subtree_search::Stop;
+use subtree_search::{Silent, Stop, TextRecord};
 use tuple_match::Template;
 
 /// How many steps a worker makes at most until it has no transaction, if there is memory.
@@ -27,7 +28,7 @@ const STEPS_TO_IDLE: usize = 3;
 /// What workers share: the space, the node below which they search, what they wait for there, how many wait, whether
 /// the search should stop, how many nodes were taken and tried, when children are left open untried, what they know of
 /// open nodes, which they take first, the values of the nodes that they have yet to decide, and what offers
-/// permutations.
+/// permutations and takes pieces of a proof.
 #[derive(Drop)]
 pub(crate) struct Workplace<'a, R: Wait + time::Clock, L: Law, O> {
     pub(crate) rt: &'a R,
@@ -42,7 +43,7 @@ pub(crate) struct Workplace<'a, R: Wait + time::Clock, L: Law, O> {
     pub(crate) board: &'a Mutex<Board>,
     pub(crate) order: Order,
     pub(crate) values: &'a Mutex<Values>,
-    pub(crate) offers: &'a O,
+    pub(crate) beside: &'a O,
 }
 
 /// Lets a worker try the children of a node until the search is to stop, another worker has no node, or its time is up.
@@ -145,7 +146,10 @@ impl<L: Law> Seat<L> {
 
     /// Works until the space is closed or there is no memory; a worker that found none gives its node up. At the end it has
     /// no transaction.
-    pub(crate) fn work<R: Wait + time::Clock, O: Offers>(&mut self, place: &Workplace<'_, R, L, O>)
+    pub(crate) fn work<R: Wait + time::Clock, O: Offers + Pieces>(
+        &mut self,
+        place: &Workplace<'_, R, L, O>,
+    )
         ensures { self.new.to_idle ≡ 0 }
     {
         for _ in place.rt.forever() {
@@ -177,14 +181,17 @@ impl<L: Law> Seat<L> {
 
     /// Outside the space's lock takes up what is offered, if that is better than what its worker has.
     fn take_offer<R: Wait + time::Clock, O: Offers>(&mut self, place: &Workplace<'_, R, L, O>) {
-        if let Some(offered) = place.offers.offered(self.worker.cost()) {
+        if let Some(offered) = place.beside.offered(self.worker.cost()) {
             self.worker.consider(place.root, offered);
         }
     }
 
     /// Tries its node outside the space's lock; then it commits what is left and takes another node under one
     /// acquisition of the lock, and waits for one if there is none.
-    fn go_on_at<R: Wait + time::Clock, O: Offers>(&mut self, place: &Workplace<'_, R, L, O>) {
+    fn go_on_at<R: Wait + time::Clock, O: Offers + Pieces>(
+        &mut self,
+        place: &Workplace<'_, R, L, O>,
+    ) {
         let due = Due {
             rt: place.rt,
             waiting: place.waiting,
@@ -197,7 +204,9 @@ impl<L: Law> Seat<L> {
         if self.worker.has_node() {
             place.tried.fetch_add(1, Ordering::SeqCst);
         }
-        self.ended = match self.worker.try_node(&due) {
+        let mut record = TextRecord::new(place.alloc);
+        let is_recorded = place.beside.are_kept();
+        self.ended = match try_node(&mut self.worker, &due, is_recorded, &mut record) {
             Ok(()) => None,
             Err(AllocError) => Some(Ended::Memory),
         };
@@ -211,7 +220,7 @@ impl<L: Law> Seat<L> {
         place.shared.together(place.rt, self);
         let accepted = self.worker.is_accepted().then_some(self.worker.cost());
         if let Some(trial) = self.worker.take_trial()
-            && post(place, trial, accepted).is_err()
+            && post(place, trial, &record, accepted).is_err()
         {
             self.end(Ended::Memory);
         }
@@ -238,6 +247,23 @@ impl<L: Law> Steps<L> for Seat<L> {
             Ok(lacks) => self.lacks = lacks,
             Err(ended) => self.end(ended),
         }
+    }
+}
+
+/// Tries the node of a worker, if it has one, and records its split if that is requested.
+fn try_node<S: Aid>(
+    worker: &mut Worker,
+    aid: &S,
+    is_recorded: bool,
+    record: &mut TextRecord,
+) -> Result<(), AllocError>
+    ensures job { worker.new.job ≡ worker.old.job }
+    ensures given_up { OnErr result (IsLeaving worker.new) }
+{
+    if is_recorded {
+        worker.try_node(aid, record)
+    } else {
+        worker.try_node(aid, &mut Silent)
     }
 }
 
@@ -328,11 +354,12 @@ fn wanted_at<R: Wait + time::Clock, L: Law, O>(place: &Workplace<'_, R, L, O>) -
     }
 }
 
-/// Settles the values of a trial, whose commit, if it was accepted, left an incumbent of this cost; then it puts the nodes
-/// that were left open on the board, if workers take nodes from there.
-fn post<R: Wait + time::Clock, L: Law, O>(
+/// Settles the values of a trial, whose commit, if it was accepted, left an incumbent of this cost; then it has its text kept,
+/// if one was recorded, and puts the nodes that were left open on the board, if workers take nodes from there.
+fn post<R: Wait + time::Clock, L: Law, O: Pieces>(
     place: &Workplace<'_, R, L, O>,
     trial: Trial,
+    record: &TextRecord,
     accepted: Option<i128>,
 ) -> Result<(), AllocError> {
     let Some(cost) = accepted else {
@@ -340,9 +367,13 @@ fn post<R: Wait + time::Clock, L: Law, O>(
         return Ok(());
     };
     place.values.lock(place.rt).accept(&trial, cost);
+    let Trial { node, opened, .. } = trial;
+    if !record.text().is_empty() {
+        place.beside.keep(&node, record);
+    }
     if matches!(place.order, Order::Least) {
         let mut board = place.board.lock(place.rt);
-        for wanted in trial.opened {
+        for wanted in opened {
             board.add(wanted)?;
         }
     }

@@ -16,6 +16,7 @@ use crate::answer::{Answer, answer_of};
 use crate::board::Board;
 use crate::offers::Offers;
 use crate::opening::{LEAST_COST, opening_space};
+use crate::pieces::Pieces;
 use crate::schedule::Task;
 use crate::seat::{Seat, Workplace};
 use crate::tuples::node_template;
@@ -33,7 +34,7 @@ use std::sync::{Mutex, Wait};
 use std::thread::Threads;
 use std::time::{Duration, Instant};
 use std::{thread, time};
-use subtree_search::Incumbent;
+use subtree_search::{Incumbent, TextRecord};
 use tuple_match::Template;
 
 /// Which open node a worker takes next.
@@ -66,18 +67,19 @@ pub struct Crew {
 /// The calling thread keeps the space: it advances the moment by the clock, and closes the space when no node is open,
 /// when every worker has left, and when the task's watch requests it. Only that thread consults the watch, and reports
 /// to it how far the search has come. The workers ask for what is found elsewhere; of that they take up what completes
-/// the root and costs less, and the answer has it once they commit. The only error is out of memory.
+/// the root and costs less, and the answer has it once they commit. They hand on the text of each node that was split
+/// by pair duals, once the commit was accepted that replaces it, if that is requested. The only error is out of memory.
 pub fn solve<R, S, O>(
     rt: &R,
     alloc: Global,
     task: &Task<'_, S>,
     crew: Crew,
-    offers: &O,
+    beside: &O,
 ) -> Result<Answer, AllocError>
 where
     R: Threads + Wait + time::Clock + Sync,
     S: Watch,
-    O: Offers + Sync,
+    O: Offers + Pieces + Sync,
     requires some { 0 < crew.workers }
     requires few { crew.workers ≤ 64 }
     requires same_size { task.now.root.now.size ≡ (arc_value task.now.ground.now).size }
@@ -86,7 +88,7 @@ where
     ensures limit { IfOk result (λ a. IsWithin crew.limit a.nodes) }
     ensures ran { IfOk result (Ran (part_from (arc_value task.now.ground.now) task.now.root.now task.now.start.now) crew) }
 {
-    let space = run_of(rt, alloc, task, crew, offers)?;
+    let space = run_of(rt, alloc, task, crew, beside)?;
     let answer = answer_of(alloc, task.ground.instance(), space)?;
     Ok(answer)
 }
@@ -97,12 +99,12 @@ fn run_of<R, S, O>(
     alloc: Global,
     task: &Task<'_, S>,
     crew: Crew,
-    offers: &O,
+    beside: &O,
 ) -> Result<TxnSpace, AllocError>
 where
     R: Threads + Wait + time::Clock + Sync,
     S: Watch,
-    O: Offers + Sync,
+    O: Offers + Pieces + Sync,
     requires some { 0 < crew.workers }
     requires few { crew.workers ≤ 64 }
     requires same_size { task.now.root.now.size ≡ (arc_value task.now.ground.now).size }
@@ -113,10 +115,30 @@ where
 {
     let instance = task.ground.instance();
     let start = Incumbent::new(instance, task.start.copy()?);
+    if beside.are_kept() {
+        hand_on_root(alloc, task, &start, beside)?;
+    }
     let space = opening_space(alloc, instance, task.root, &start)?;
     let blank = Blank::new(u64::from(crew.workers));
-    let left = search::<Brand, R, S, O>(rt, alloc, task, space, blank, crew, offers)?;
+    let left = search::<Brand, R, S, O>(rt, alloc, task, space, blank, crew, beside)?;
     Ok(left)
+}
+
+/// Hands on a text of the root as a leaf that is left open: it stands for the tree until the root is split.
+fn hand_on_root<S, O: Pieces>(
+    alloc: Global,
+    task: &Task<'_, S>,
+    start: &Incumbent,
+    beside: &O,
+) -> Result<(), AllocError>
+    requires { task.now.root.now.size ≡ (arc_value task.now.ground.now).size }
+{
+    let mut record = TextRecord::new(alloc);
+    task.ground.leave(alloc, task.root, start, &mut record)?;
+    if !record.text().is_empty() {
+        beside.keep(task.root, &record);
+    }
+    Ok(())
 }
 
 /// The same, on a space that is at the opening, under a law that is the search's.
@@ -127,13 +149,13 @@ fn search<L, R, S, O>(
     space: TxnSpace,
     blank: Blank,
     crew: Crew,
-    offers: &O,
+    beside: &O,
 ) -> Result<TxnSpace, AllocError>
 where
     L: Law + Send + Sync,
     R: Threads + Wait + time::Clock + Sync,
     S: Watch,
-    O: Offers + Sync,
+    O: Offers + Pieces + Sync,
     requires some { 0 < crew.workers }
     requires blank { IsBlankFor L.name L.parts blank crew.workers }
     requires start { length task.now.start.now ≡ (arc_value task.now.ground.now).size }
@@ -171,7 +193,7 @@ where
         board: &board,
         order: crew.order,
         values: &values,
-        offers,
+        beside,
     };
     work_all(&place, &seats, task.stop);
     let shares = shares_of(room, seats);
@@ -211,7 +233,7 @@ where
     R: Threads + Wait + time::Clock + Sync,
     L: Law + Send + Sync,
     S: Watch,
-    O: Offers + Sync,
+    O: Offers + Pieces + Sync,
 {
     thread::scope(thread::scope_env(), place.rt, |scope| {
         for seat in seats {
@@ -228,7 +250,7 @@ fn work<R, L, O>(place: &Workplace<'_, R, L, O>, seat: &Mutex<Seat<L>>)
 where
     R: Wait + time::Clock,
     L: Law,
-    O: Offers,
+    O: Offers + Pieces,
 {
     let mut seat = seat.lock(place.rt);
     seat.work(place);

@@ -12,24 +12,25 @@ use crate::board::Wanted;
 use crate::ground::{Ground, Splitter};
 use crate::open_node::Open;
 use crate::tuples::{read_open, tuple_of_open};
+use qap_cost::Partial;
 use shared_space::writing_law;
 use space_txn::Txn;
 use std::alloc::{AllocError, Global};
-use subtree_search::Incumbent;
+use subtree_search::{Incumbent, Record};
 use tuple_match::Tuple;
 use tuple_space::{EntryId, Lease};
 
-/// What the trial of a node found: the node's value and depth, and the nodes that are left open in its place.
+/// What the trial of a node found: the node with its value, and the nodes that are left open in its place.
 #[derive(Drop)]
 pub(crate) struct Trial {
+    pub(crate) node: Partial,
     pub(crate) value: i128,
-    pub(crate) depth: usize,
     pub(crate) opened: Vec<Wanted>,
 }
 
-/// Splits the open node that was taken, tries its children, writes those that remain open, and lists them. `None` if the
-/// entry is not one of an open node, or its lease ends.
-pub(crate) fn try_taken<S: Aid>(
+/// Splits the open node that was taken, tries its children, writes those that remain open, and lists them. The split is
+/// recorded. `None` if the entry is not one of an open node, or its lease ends.
+pub(crate) fn try_taken<S: Aid, W: Record>(
     alloc: Global,
     ground: &Ground,
     splitter: &mut Splitter,
@@ -37,6 +38,7 @@ pub(crate) fn try_taken<S: Aid>(
     txn: &mut Txn,
     id: EntryId,
     aid: &S,
+    record: &mut W,
 ) -> Result<Option<Trial>, AllocError>
     requires splitter { IsSplitter ground.now splitter.old }
     requires incumbent { IsIncumbent ground.now incumbent.old }
@@ -49,12 +51,13 @@ pub(crate) fn try_taken<S: Aid>(
     let Some(at) = open_at(alloc, ground.instance().size(), txn, id)? else {
         return Ok(None);
     };
-    let opens = ground.split(alloc, splitter, &at, incumbent, aid)?;
+    let opens = ground.split(alloc, splitter, &at, incumbent, aid, record)?;
     write_all(alloc, txn, &opens)?;
     let opened = wanted_of(alloc, &opens)?;
+    let Open { node, value } = at;
     Ok(Some(Trial {
-        value: at.value,
-        depth: at.node.depth(),
+        node,
+        value,
         opened,
     }))
 }

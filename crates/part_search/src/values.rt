@@ -60,7 +60,7 @@ impl Values {
     /// After a commit that was accepted and left an incumbent of this cost, drops the value of the node that it replaced.
     pub(crate) fn accept(&mut self, trial: &Trial, cost: i128) {
         self.remove(trial.value);
-        self.left = self.left.saturating_sub(self.share(trial.depth));
+        self.left = self.left.saturating_sub(self.share(trial.node.depth()));
         self.cost = self.cost.min(cost);
     }
 

@@ -22,7 +22,7 @@ use std::alloc::{AllocError, Global};
 use std::marker::Model;
 use std::mem::replace;
 use std::sync::Arc;
-use subtree_search::Incumbent;
+use subtree_search::{Incumbent, Record};
 use tuple_match::Template;
 
 /// What a worker's calls are made with.
@@ -116,9 +116,9 @@ impl Worker {
         take_up(instance, root, &mut self.incumbent, offered);
     }
 
-    /// If it took an open node, splits it and tries its children, outside the space; its next step commits what is
-    /// left. At an error memory ran out, and the node is given up.
-    pub fn try_node<S: Aid>(&mut self, aid: &S) -> Result<(), AllocError>
+    /// If it took an open node, splits it and tries its children, outside the space, and records the split; its next step commits
+    /// what is left. At an error memory ran out, and the node is given up.
+    pub fn try_node<S: Aid, W: Record>(&mut self, aid: &S, record: &mut W) -> Result<(), AllocError>
         ensures job { self.new.job ≡ self.old.job }
         ensures given_up { OnErr result (IsLeaving self.new) }
     {
@@ -130,6 +130,7 @@ impl Worker {
             &mut self.incumbent,
             stage,
             aid,
+            record,
         );
         self.stage = stage;
         self.trial = tried?;
@@ -221,13 +222,14 @@ impl Worker {
 
 /// The stage of a worker after it has tried the node that it took, and what the trial found. At an error there was no
 /// memory.
-fn tried<S: Aid>(
+fn tried<S: Aid, W: Record>(
     alloc: Global,
     ground: &Ground,
     splitter: &mut Splitter,
     incumbent: &mut Incumbent,
     stage: Stage,
     aid: &S,
+    record: &mut W,
 ) -> (Stage, Result<Option<Trial>, AllocError>)
     requires splitter { IsSplitter ground.now splitter.old }
     requires worker { IsWorker ground.now incumbent.old stage }
@@ -237,7 +239,9 @@ fn tried<S: Aid>(
 {
     match stage {
         Stage::Taken(mut txn, id) => {
-            let tried = try_taken(alloc, ground, splitter, incumbent, &mut txn, id, aid);
+            let tried = try_taken(
+                alloc, ground, splitter, incumbent, &mut txn, id, aid, record,
+            );
             match tried {
                 Ok(Some(trial)) => (Stage::Tried(txn), Ok(Some(trial))),
                 Ok(None) => (Stage::GivingUp(txn), Ok(None)),

@@ -32,6 +32,9 @@ pub enum PlannerError {
     /// An assembled proof is not one for the instance.
     #[error("the proof is refused: {0}")]
     Proof(ProofError),
+    /// A search left no proof.
+    #[error("the search left no proof: report this fault of the program")]
+    NoProof,
     /// A start moves what is fixed, or uses a forbidden place.
     #[error("the arrangement moves what is fixed, or uses a forbidden place: change it, or leave out --start")]
     StartForbidden,

@@ -1,18 +1,23 @@
 //! The files that a run writes, and what it prints. Each is written independently of the others; the most serious
 //! status wins.
 
-ghost use Rattle.std.specs.Prelude.{◌≡◌, ◌≤◌, ◌⊎◌, IfErr};
+ghost use Rattle.std.specs.Prelude.{◌≡◌, ◌≤◌, ◌⊎◌, ℕ, IfErr, IfOk, List};
 ghost use Rattle.plan_files.specs.Outputs.{IsFailure, severity};
 
 use crate::error::PlannerError;
+use crate::noting::Noting;
 use crate::refusal::refuse_with;
 use crate::sink::Sink;
-use output_file::{Output, file_id, open_output, reason};
+use crate::source::Source;
+use output_file::{Output, Place, file_id, open_output, reason};
 use qap_io::Status;
 use std::alloc::{AllocError, Global};
 use std::fs::{self, File};
-use std::io::{self, Write};
+use std::io::{self, BufWriter, Write};
 use std::marker::Model;
+
+/// How many bytes of a text that is made while it is written are written at once.
+const CAPACITY: usize = 1 << 16;
 
 /// A file that a run was asked to write, under the name that it was given.
 #[derive(Drop)]
@@ -86,6 +91,16 @@ impl<'a> Outputs<'a> {
         None
     }
 
+    /// A scratch file of the output of this name.
+    fn scratch_of(&self, name: &str) -> io::Result<File> {
+        for file in &self.files {
+            if file.name.as_str() == name {
+                return file.output.scratch(self.rt);
+            }
+        }
+        Err(io::Error::from(io::ErrorKind::NotFound))
+    }
+
     /// The first file of this name that has not been written yet; one that was not opened is opened now.
     fn take(&mut self, name: &str) -> io::Result<Output<File>> {
         let mut at: usize = 0;
@@ -142,6 +157,34 @@ impl Sink for Outputs<'_> {
         }
     }
 
+    fn put_from<X: Source + Drop>(&mut self, alloc: Global, name: &str, source: X) -> Status {
+        let begun = match self.take(name) {
+            Ok(output) => output.begin(self.rt),
+            Err(error) => return refuse_io(self.rt, name, &error),
+        };
+        let (file, place) = match begun {
+            Ok(begun) => begun,
+            Err(error) => return refuse_io(self.rt, name, &error),
+        };
+        match fill(alloc, file, source) {
+            Ok(file) => match place.settle(self.rt, file) {
+                Ok(()) => Status::Done,
+                Err(error) => refuse_io(self.rt, name, &error),
+            },
+            Err(fault) => {
+                place.cancel(self.rt);
+                refuse_fault(self.rt, name, &fault)
+            }
+        }
+    }
+
+    fn scratch(&self, name: &str) -> Result<File, Status> {
+        match self.scratch_of(name) {
+            Ok(file) => Ok(file),
+            Err(error) => Err(refuse_io(self.rt, name, &error)),
+        }
+    }
+
     fn print(&mut self, _alloc: Global, text: &[u8]) -> Status {
         match write_all(&mut self.rt.stdout(), text) {
             Ok(()) => Status::Done,
@@ -161,8 +204,50 @@ impl Sink for Outputs<'_> {
         refuse_with(self.rt, file, error)
     }
 
+    fn fail(&self, file: &str, error: &io::Error) -> Status {
+        refuse_io(self.rt, file, error)
+    }
+
     fn note(&self, line: &str) {
         let _ = self.rt.eprintln(line);
+    }
+}
+
+/// Why a text that is made while it is written could not be written: its writer failed, or it could not be made.
+#[derive(Drop)]
+enum Fault {
+    Writer(io::Error),
+    Source(PlannerError),
+}
+
+/// Writes a text to a file while it is made.
+fn fill<X: Source + Drop>(alloc: Global, file: File, source: X) -> Result<File, Fault>
+    ensures { IfOk result (λ _. (text : List ℕ) × X.tells source text) }
+{
+    let writer = match BufWriter::with_capacity(alloc, CAPACITY, Noting::new(file)) {
+        Ok(writer) => writer,
+        Err(error) => return Err(Fault::Writer(error)),
+    };
+    let (mut writer, made) = source.write_to(alloc, writer);
+    let flushed = writer.flush();
+    let (file, failure) = writer.into_parts().0.into_parts();
+    match (made, flushed) {
+        (Ok(()), Ok(())) => Ok(file),
+        (Ok(()), Err(error)) => Err(Fault::Writer(failure.unwrap_or(error))),
+        (Err(error), _) => match failure {
+            Some(failure) => Err(Fault::Writer(failure)),
+            None => Err(Fault::Source(error)),
+        },
+    }
+}
+
+/// Reports on standard error why such a text was not written.
+fn refuse_fault(rt: &HostRuntime, name: &str, fault: &Fault) -> Status
+    ensures { IsFailure result }
+{
+    match fault {
+        Fault::Writer(error) => refuse_io(rt, name, error),
+        Fault::Source(error) => refuse_with(rt, name, *error),
     }
 }
 

@@ -4,8 +4,11 @@ ghost use Rattle.std.specs.Prelude.{◌≡◌, ℕ, Bool, IfErr, List, OnOk};
 ghost use Rattle.plan_files.specs.Outputs.{EndsWith, IsFailure};
 
 use crate::error::PlannerError;
+use crate::source::Source;
 use qap_io::Status;
 use std::alloc::Global;
+use std::fs::File;
+use std::io;
 
 /// Where the texts of a run go: files by name, standard output, and standard error for what is refused.
 pub trait Sink {
@@ -32,6 +35,16 @@ pub trait Sink {
     fn put(&mut self, alloc: Global, name: &str, text: &[u8]) -> Status
         ensures { EndsWith result (writes self.old name.now text.now self.new) };
 
+    /// Writes a text to the file of a name while it is made; the reason of a failure is reported on standard error, and
+    /// what was in the place of a regular file stays there.
+    fn put_from<X: Source + Drop>(&mut self, alloc: Global, name: &str, source: X) -> Status
+        ensures { EndsWith result ((text : List ℕ) × X.tells source text × writes self.old name.now text self.new) };
+
+    /// A file for what is needed until the file of a name is written, which no name refers to. Why there is none is reported
+    /// on standard error.
+    fn scratch(&self, name: &str) -> Result<File, Status>
+        ensures { IfErr result IsFailure };
+
     /// Prints a text on standard output. A closed pipe is not an error: its reader needed no more.
     fn print(&mut self, alloc: Global, text: &[u8]) -> Status
         ensures { EndsWith result (prints self.old text.now self.new) };
@@ -42,6 +55,10 @@ pub trait Sink {
 
     /// Reports on standard error what a file is refused for, and returns how the run ends.
     fn refuse(&self, file: &str, error: PlannerError) -> Status
+        ensures { IsFailure result };
+
+    /// Reports on standard error what the system refuses a file for, and returns how the run ends.
+    fn fail(&self, file: &str, error: &io::Error) -> Status
         ensures { IsFailure result };
 
     /// Reports something on standard error.

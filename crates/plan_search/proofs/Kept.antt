@@ -7,9 +7,8 @@ use Rattle.qap_cost.specs.Objective.{Permutes, cost_of}
 use Rattle.qap_cost.specs.Placement.{Completes, Placement, root_of}
 use Rattle.qap_cost.proofs.Nodes.{root_completed}
 use Rattle.qap_proof.specs.Claim.{Claim}
-use Rattle.proof_search.specs.Held.{Held}
-use Rattle.plan_search.specs.Keeping.{IsKept, IsNoDearerKept, IsSearched, ProvesKept, ShowsKept}
-use Rattle.plan_search.specs.Planning.{IsNoDearer, IsPlanned, ProvesOver, ShowsOver}
+use Rattle.plan_search.specs.Keeping.{IsKept, IsNoDearerKept, IsSearched, ProvesKept}
+use Rattle.plan_search.specs.Planning.{IsNoDearer, IsPlanned, ProvesOver}
 
 no_dearer_planned : (I : Problem) (x : Placement) (start : Option (List ℕ)) (c : ℤ) → ((q : List ℕ) → Permutes I q → Completes x q)
     → IfSome start (Permutes I) → IsNoDearerKept I x start c → IsNoDearer I start c
@@ -51,18 +50,6 @@ kept_proved I x root None p c g same h = tt
 kept_proved I x root (Some C) p c g same h = record {
   shape = h.shape;
   proves = h.proves;
-  root = λ q. subst (λ (y : Placement). Completes x q ↔ Completes y q) (sym h.over) (same q);
-  permutation = h.permutation;
-  cost = h.cost;
-  bound = h.bound;
-}
-
--- and what a proof with pair duals over it proves
-pub kept_shown : (I : Problem) (x root : Placement) (o : Option Held) (p : List ℕ) (c g : ℤ) → ((q : List ℕ) → Completes x q ↔ Completes root q)
-    → IfSome o (ShowsOver I root p c g) → IfSome o (ShowsKept I x p c g)
-kept_shown I x root None p c g same h = tt
-kept_shown I x root (Some held) p c g same h = record {
-  shows = h.shows;
   root = λ q. subst (λ (y : Placement). Completes x q ↔ Completes y q) (sym h.over) (same q);
   permutation = h.permutation;
   cost = h.cost;

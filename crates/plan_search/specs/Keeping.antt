@@ -4,7 +4,6 @@ use Rattle.qap_cost.specs.Instance.{Problem}
 use Rattle.qap_cost.specs.Objective.{Permutes, cost_of}
 use Rattle.qap_cost.specs.Placement.{Completes, Placement}
 use Rattle.qap_proof.specs.Claim.{Claim, IsProof, Proves}
-use Rattle.proof_search.specs.Held.{Held, Shows}
 
 -- costs no more than the start, if there is one that respects what is fixed
 abbrev pub IsNoDearerKept : Problem → Placement → Option (List ℕ) → ℤ → Type 0
@@ -36,11 +35,3 @@ pub record ProvesKept (I : Problem) (x : Placement) (p : List ℕ) (c g : ℤ) (
   pub permutation : C.permutation ≡ p
   pub cost : C.cost ≡ c
   pub bound : C.bound ≡ g
-
--- a valid proof with pair duals over a node with the same completions as what is fixed, with this permutation, its cost and this bound
-pub record ShowsKept (I : Problem) (x : Placement) (p : List ℕ) (c g : ℤ) (h : Held) : Type 0 where
-  pub shows : Shows I h
-  pub root : (q : List ℕ) → Completes x q ↔ Completes h.root q
-  pub permutation : h.permutation ≡ p
-  pub cost : h.cost ≡ c
-  pub bound : h.bound ≡ g

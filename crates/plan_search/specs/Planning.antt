@@ -4,7 +4,6 @@ use Rattle.qap_cost.specs.Instance.{Problem}
 use Rattle.qap_cost.specs.Objective.{NoneCostsLess, Permutes, cost_of}
 use Rattle.qap_cost.specs.Placement.{Placement}
 use Rattle.qap_proof.specs.Claim.{Claim, IsProof, Proves}
-use Rattle.proof_search.specs.Held.{Held, Shows}
 
 -- costs no more than the start, if there is one
 abbrev pub IsNoDearer : Problem → Option (List ℕ) → ℤ → Type 0
@@ -27,11 +26,3 @@ pub record ProvesOver (I : Problem) (root : Placement) (p : List ℕ) (c g : ℤ
   pub permutation : C.permutation ≡ p
   pub cost : C.cost ≡ c
   pub bound : C.bound ≡ g
-
--- a valid proof with pair duals over this root, with this permutation, its cost and this bound
-pub record ShowsOver (I : Problem) (root : Placement) (p : List ℕ) (c g : ℤ) (h : Held) : Type 0 where
-  pub shows : Shows I h
-  pub over : h.root ≡ root
-  pub permutation : h.permutation ≡ p
-  pub cost : h.cost ≡ c
-  pub bound : h.bound ≡ g

@@ -1,5 +1,5 @@
-//! Improves a permutation by tabu searches before the search for a proof begins: some in turn, and, where the proof is
-//! to be assembled under a time limit, several more side by side for a part of the time.
+//! Improves a permutation by tabu searches before the search for a proof begins: some in turn, and, where a proof by bounds
+//! of Gilmore and Lawler is to be assembled under a time limit, several more side by side for a part of the time.
 
 ghost use Rattle.std.specs.Prelude.{IfOk, false, length, true, ◌≡◌, ◌≤ℤ◌};
 ghost use Rattle.qap_cost.specs.Objective.{Permutes, cost_of};

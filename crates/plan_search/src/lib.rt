@@ -1,6 +1,8 @@
 //! The search of a plan or an instance: a tabu search, the search for a proof that no arrangement costs less, and the limits of a run.
 #![tactic(auto)]
 
+mod estimating;
+mod hooks;
 mod improving;
 mod keeper;
 mod memory_limit;
@@ -13,12 +15,12 @@ mod standing;
 mod subtrees;
 mod tabu;
 
+pub use estimating::estimate_below;
+pub use hooks::Hooks;
 pub use improving::improved_below;
 pub use keeper::{Keeper, Progress};
-pub use memory_limit::WithinMemory;
 pub use options::{MAX_NODES, MAX_WORKERS, Options};
 pub use planning::Planned;
-pub use proving::prove_below;
 pub use run_clock::RunClock;
-pub use searching::{own_start, search, search_keeping};
+pub use searching::{own_start, search, search_below, search_keeping};
 pub use standing::standing_proof;

@@ -9,8 +9,6 @@ pub struct WithinMemory<'a, K: Keeper> {
     keeper: &'a K,
     /// How many bytes of memory the program may have.
     allowed: Option<u64>,
-    /// Into how many parts these are divided, of which the search may have one.
-    parts: Cell<u64>,
     is_passed: Cell<bool>,
 }
 
@@ -24,14 +22,8 @@ impl<'a, K: Keeper> WithinMemory<'a, K> {
         WithinMemory {
             keeper,
             allowed,
-            parts: Cell::new(1),
             is_passed: Cell::new(false),
         }
-    }
-
-    /// Lets the search have one of this many parts of the memory from now on; 0 counts as 1.
-    pub fn divide(&self, parts: u64) {
-        self.parts.set(parts);
     }
 
     /// Whether the program is known to have more memory than it may.
@@ -40,7 +32,7 @@ impl<'a, K: Keeper> WithinMemory<'a, K> {
             return false;
         };
         match self.keeper.resident_bytes() {
-            Some(taken) => taken > allowed / self.parts.get().max(1),
+            Some(taken) => taken > allowed,
             None => false,
         }
     }

@@ -28,14 +28,12 @@ const LARGEST_EASY: u64 = 20;
 /// How many searches in turn follow the first one.
 const SEARCHES_IN_TURN: u32 = 8;
 
-/// With more free facilities than this a proof is rarely in reach.
-const LARGEST_PROVED: u64 = 36;
+/// The most free facilities with which a root is searched under pair duals: finding them takes memory with the fourth power
+/// of their number.
+const MAX_FREE: u64 = 36;
 
 /// From this many free facilities on it never is.
 const LEAST_UNPROVED: u64 = 40;
-
-/// For how many milliseconds tabu searches continue for each square of a number of facilities above the largest easy one.
-const MS_PER_SQUARE: u64 = 10;
 
 /// About how many entries of the pair duals of a root are found in a millisecond.
 const ENTRIES_PER_MS: u64 = 500;
@@ -111,13 +109,10 @@ impl Options {
         }
     }
 
-    /// Whether tabu searches go on beside a search: under a time limit, unless a number of iterations is given, the
-    /// proof is to be assembled, or few facilities are free.
+    /// Whether tabu searches go on beside a search: under a time limit, unless a number of iterations is given, or few
+    /// facilities are free.
     fn has_tabu_beside(&self, root: &Partial) -> bool {
-        self.milliseconds.is_some()
-            && self.improve.is_none()
-            && !self.proves
-            && free_in(root) > LARGEST_EASY
+        self.milliseconds.is_some() && self.improve.is_none() && free_in(root) > LARGEST_EASY
     }
 
     /// The tabu search before it.
@@ -138,22 +133,15 @@ impl Options {
         }
     }
 
-    /// Until how many milliseconds after the beginning of the run tabu searches continue side by side after these:
-    /// where the proof is to be assembled and no number of iterations is given, for a part of the time limit that grows
-    /// with the number of facilities that the root leaves free. From 37 on, where a proof is rarely in reach, that is
-    /// three quarters of it.
+    /// Until how many milliseconds after the beginning of the run tabu searches continue side by side after these: where
+    /// the proof is to be assembled, no number of iterations is given, and more facilities are free than are searched under
+    /// pair duals, until three quarters of the time limit have passed.
     pub fn improving_until(&self, root: &Partial) -> Option<u64> {
         let limit = self.milliseconds?;
-        let free = free_in(root);
-        if self.improve.is_some() || !self.proves || free <= LARGEST_EASY {
+        if self.improve.is_some() || !self.proves || has_few_free(root) {
             return None;
         }
-        if free > LARGEST_PROVED {
-            return Some(limit.saturating_sub(limit / 4));
-        }
-        let over = free.saturating_sub(LARGEST_EASY);
-        let square = over.saturating_mul(over);
-        Some((limit / 10).min(square.saturating_mul(MS_PER_SQUARE)))
+        Some(limit.saturating_sub(limit / 4))
     }
 
     /// Whether pair duals of a root will probably be found within the time limit, by a search for them that begins this
@@ -173,6 +161,11 @@ impl Options {
     pub fn allowed_bytes(&self) -> Option<u64> {
         Some(self.memory?.saturating_mul(1 << 20))
     }
+}
+
+/// Whether a root has few enough free facilities for pair duals.
+pub(crate) fn has_few_free(root: &Partial) -> bool {
+    free_in(root) <= MAX_FREE
 }
 
 /// How many facilities a root leaves free.

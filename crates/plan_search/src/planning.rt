@@ -2,7 +2,6 @@
 
 ghost use Rattle.std.specs.Prelude.{true, ◌↔◌, ◌≡◌, ◌≤ℤ◌};
 
-use proof_search::PairProof;
 use qap_cost::Perm;
 use qap_proof::Proof;
 
@@ -18,10 +17,8 @@ pub struct Planned {
     pub nodes: u64,
     /// How many nodes were left open.
     pub open_nodes: u64,
-    /// The proof of the bound, if one was requested, by bounds of Gilmore and Lawler.
+    /// The proof of the bound, if one was requested and is by bounds of Gilmore and Lawler.
     pub proof: Option<Proof>,
-    /// The proof of the bound, if one was requested, with pair duals.
-    pub pair_proof: Option<PairProof>,
 }
 
 impl Planned {

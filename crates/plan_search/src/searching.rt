@@ -5,17 +5,18 @@ ghost use Rattle.std.specs.Prelude.{IfOk, IfSome, ◌≡◌};
 ghost use Rattle.qap_cost.specs.Objective.{Permutes, cost_of};
 ghost use Rattle.qap_cost.specs.Placement.{Completes, root_of};
 ghost use Rattle.qap_proof.specs.Claim.{IsRoot};
-ghost use Rattle.plan_search.specs.Keeping.{IsKept, IsNoDearerKept, IsSearched, ProvesKept, ShowsKept};
+ghost use Rattle.plan_search.specs.Keeping.{IsKept, IsNoDearerKept, IsSearched, ProvesKept};
 ghost use Rattle.plan_search.specs.Options.{AreLimited};
-ghost use Rattle.plan_search.specs.Planning.{IsPlanned, ProvesOver, ShowsOver};
+ghost use Rattle.plan_search.specs.Planning.{IsPlanned, ProvesOver};
 
+use crate::hooks::Hooks;
 use crate::improving::improved_below;
 use crate::keeper::Keeper;
-use crate::memory_limit::WithinMemory;
 use crate::options::Options;
 use crate::planning::Planned;
-use crate::proving::prove_below;
-use crate::subtrees::search_subtrees;
+use crate::proving::prove_by_rows;
+use crate::subtrees::{has_pairs, search_subtrees};
+use part_search::Pieces;
 use plan_file::{ascending, completed, completes, identity};
 use qap_cost::{Instance, Partial, Perm, cost};
 use std::alloc::{AllocError, Global};
@@ -25,78 +26,77 @@ use std::time;
 
 /// Searches, from the start or any permutation, until no node is open, a limit is reached, a stop is requested, or
 /// memory runs out. The keeper, which may stop it, observes its progress.
-pub fn search<T, K>(
+pub fn search<T, K, P>(
     system: &T,
     alloc: Global,
     instance: &Instance,
     start: Option<Perm>,
     options: &Options,
-    keeper: &K,
+    hooks: &Hooks<'_, K, P>,
 ) -> Result<Planned, AllocError>
 where
     T: Threads + Wait + time::Clock + Sync,
     K: Keeper,
+    P: Pieces + Sync,
     requires limited { AreLimited options.now }
     requires start { IfSome start (Permutes instance.now) }
     ensures planned { IfOk result (λ x. IsPlanned instance.now start x.permutation x.cost x.bound) }
     ensures proof { IfOk result (λ x. IfSome x.proof (ProvesOver instance.now (root_of instance.now.size) x.permutation x.cost x.bound)) }
-    ensures pair_proof { IfOk result (λ x. IfSome x.pair_proof (ShowsOver instance.now (root_of instance.now.size) x.permutation x.cost x.bound)) }
 {
     let root = Partial::root(alloc, instance.size())?;
-    let found = search_root(system, alloc, instance, &root, start, options, keeper)?;
+    let found = search_root(system, alloc, instance, &root, start, options, hooks)?;
     Ok(found)
 }
 
 /// Searches the permutations that complete a node, from the start or any of them, until no node is open, a limit is
 /// reached, a stop is requested, or memory runs out.
-pub fn search_keeping<T, K>(
+pub fn search_keeping<T, K, P>(
     system: &T,
     alloc: Global,
     instance: &Instance,
     fixed: &Partial,
     start: Option<Perm>,
     options: &Options,
-    keeper: &K,
+    hooks: &Hooks<'_, K, P>,
 ) -> Result<Planned, AllocError>
 where
     T: Threads + Wait + time::Clock + Sync,
     K: Keeper,
+    P: Pieces + Sync,
     requires limited { AreLimited options.now }
     requires start { IfSome start (Permutes instance.now) }
     requires size { fixed.now.size ≡ instance.now.size }
     ensures kept { IfOk result (λ x. IsKept instance.now fixed.now start x.permutation x.cost x.bound) }
     ensures proof { IfOk result (λ x. IfSome x.proof (ProvesKept instance.now fixed.now x.permutation x.cost x.bound)) }
-    ensures pair_proof { IfOk result (λ x. IfSome x.pair_proof (ShowsKept instance.now fixed.now x.permutation x.cost x.bound)) }
 {
     let root = ascending(alloc, fixed)?;
-    let found = search_root(system, alloc, instance, &root, start, options, keeper)?;
+    let found = search_root(system, alloc, instance, &root, start, options, hooks)?;
     Ok(found)
 }
 
 /// Searches the permutations that complete a root.
-fn search_root<T, K>(
+fn search_root<T, K, P>(
     system: &T,
     alloc: Global,
     instance: &Instance,
     root: &Partial,
     start: Option<Perm>,
     options: &Options,
-    keeper: &K,
+    hooks: &Hooks<'_, K, P>,
 ) -> Result<Planned, AllocError>
 where
     T: Threads + Wait + time::Clock + Sync,
     K: Keeper,
+    P: Pieces + Sync,
     requires limited { AreLimited options.now }
     requires root { IsRoot instance.now.size root.now }
     requires start { IfSome start (Permutes instance.now) }
     ensures kept { IfOk result (λ x. IsKept instance.now root.now start x.permutation x.cost x.bound) }
     ensures proof { IfOk result (λ x. IfSome x.proof (ProvesOver instance.now root.now x.permutation x.cost x.bound)) }
-    ensures pair_proof { IfOk result (λ x. IfSome x.pair_proof (ShowsOver instance.now root.now x.permutation x.cost x.bound)) }
 {
     let own = own_start(alloc, instance, root, start)?;
-    let first = improved_below(system, alloc, instance, root, own, options, keeper)?;
-    let within = WithinMemory::new(keeper, options.allowed_bytes());
-    let found = search_from(system, alloc, instance, root, &first, options, &within)?;
+    let first = improved_below(system, alloc, instance, root, own, options, hooks.keeper)?;
+    let found = search_below(system, alloc, instance, root, &first, options, hooks)?;
     Ok(kept_or_first(instance, root, first, found))
 }
 
@@ -118,30 +118,31 @@ pub fn own_start(
     }
 }
 
-/// Searches from a permutation on, for a proof if one is requested.
-fn search_from<T, K>(
+/// Searches the completions of a root from a permutation on. If a proof is requested, that is by pair duals, and its
+/// pieces are handed on, unless the search is not by these: then it is one by bounds of Gilmore and Lawler.
+pub fn search_below<T, K, P>(
     system: &T,
     alloc: Global,
     instance: &Instance,
     root: &Partial,
     start: &Perm,
     options: &Options,
-    within: &WithinMemory<'_, K>,
+    hooks: &Hooks<'_, K, P>,
 ) -> Result<Planned, AllocError>
 where
     T: Threads + Wait + time::Clock + Sync,
     K: Keeper,
+    P: Pieces + Sync,
     requires limited { AreLimited options.now }
     requires root { IsRoot instance.now.size root.now }
     requires start { Permutes instance.now start.now }
     ensures searched { IfOk result (λ x. IsSearched instance.now root.now start.now x.permutation x.cost x.bound) }
     ensures proof { IfOk result (λ x. IfSome x.proof (ProvesOver instance.now root.now x.permutation x.cost x.bound)) }
-    ensures pair_proof { IfOk result (λ x. IfSome x.pair_proof (ShowsOver instance.now root.now x.permutation x.cost x.bound)) }
 {
-    if options.proves {
-        return prove_below(system, alloc, instance, root, start, options, within);
+    if options.proves && !has_pairs(instance, root, start, options, hooks.keeper.now()) {
+        return prove_by_rows(alloc, instance, root, start, options, hooks.keeper);
     }
-    let found = search_subtrees(system, alloc, instance, root, start, options, within)?;
+    let found = search_subtrees(system, alloc, instance, root, start, options, hooks)?;
     Ok(found)
 }
 
@@ -152,11 +153,9 @@ fn kept_or_first(instance: &Instance, root: &Partial, first: Perm, found: Planne
     requires first { Completes root.now first }
     requires searched { IsSearched instance.now root.now first found.permutation found.cost found.bound }
     requires proof { IfSome found.proof (ProvesOver instance.now root.now found.permutation found.cost found.bound) }
-    requires pair_proof { IfSome found.pair_proof (ShowsOver instance.now root.now found.permutation found.cost found.bound) }
     ensures completes { Completes root.now result.permutation }
     ensures searched { IsSearched instance.now root.now first result.permutation result.cost result.bound }
     ensures proof { IfSome result.proof (ProvesOver instance.now root.now result.permutation result.cost result.bound) }
-    ensures pair_proof { IfSome result.pair_proof (ShowsOver instance.now root.now result.permutation result.cost result.bound) }
 {
     if completes(root, &found.permutation) {
         return found;
@@ -168,6 +167,5 @@ fn kept_or_first(instance: &Instance, root: &Partial, first: Perm, found: Planne
         nodes: found.nodes,
         open_nodes: found.open_nodes,
         proof: None,
-        pair_proof: None,
     }
 }

@@ -8,16 +8,17 @@ ghost use Rattle.subtree_search.specs.Closed.{IsClosed};
 ghost use Rattle.plan_search.specs.Keeping.{IsSearched};
 ghost use Rattle.plan_search.specs.Options.{AreLimited};
 
+use crate::hooks::{Hooks, WithPieces};
 use crate::improving::is_better;
 use crate::keeper::{Keeper, Progress};
 use crate::memory_limit::WithinMemory;
-use crate::options::{Options, free_in};
+use crate::options::{Options, has_few_free};
 use crate::planning::Planned;
 use crate::tabu::{Beside, Tabu};
-use dual_ascent::Effort;
+use dual_ascent::{Effort, has_range};
 use gilmore_lawler::RankedInstance;
 use node_split::NodeSplit;
-use part_search::{Answer, Crew, Ground, Offers, Task, Watch, solve};
+use part_search::{Answer, Crew, Ground, Offers, Pieces, Task, Watch, solve};
 use qap_cost::{Instance, Partial, Perm, cost};
 use std::alloc::{AllocError, Global};
 use std::cell::Cell;
@@ -25,13 +26,6 @@ use std::sync::{Arc, Wait};
 use std::thread::Threads;
 use std::{thread, time};
 use subtree_search::{Never, Stop};
-
-/// The most free facilities with which a root is searched under pair duals: finding them takes memory with the fourth power
-/// of their number.
-const MAX_FREE: u64 = 36;
-
-/// How many hard rounds follow the soft sweeps that find the pair duals of the root.
-pub(crate) const ROUNDS: u32 = 30;
 
 /// The greatest scale of pair duals is this power of two.
 const MAX_EXPONENT: u32 = 16;
@@ -48,33 +42,37 @@ const ROUNDS_PER_LOOK: u32 = 128;
 
 /// Searches below a root from a permutation on, to the end or until a limit is reached or a stop is requested. Under a
 /// time limit tabu searches go on beside it for the whole time; the best permutation that they find counts too.
-pub(crate) fn search_subtrees<T, K>(
+pub(crate) fn search_subtrees<T, K, P>(
     system: &T,
     alloc: Global,
     instance: &Instance,
     root: &Partial,
     start: &Perm,
     options: &Options,
-    within: &WithinMemory<'_, K>,
+    hooks: &Hooks<'_, K, P>,
 ) -> Result<Planned, AllocError>
 where
     T: Threads + Wait + time::Clock + Sync,
     K: Keeper,
+    P: Pieces + Sync,
     requires limited { AreLimited options.now }
     requires start { Permutes instance.now start.now }
     requires same_size { root.now.size ≡ instance.now.size }
     ensures searched { IfOk result (λ x. IsSearched instance.now root.now start.now x.permutation x.cost x.bound) }
     ensures proof { IfOk result (λ x. x.proof ≡ None) }
-    ensures pair_proof { IfOk result (λ x. x.pair_proof ≡ None) }
 {
     let first_ms = options.first_turn_ms(root);
     let tabu = Tabu::new(system, alloc, instance, root, start, options.seed)?.with_turns(first_ms);
-    let watcher = Watcher {
-        within,
+    let others = WithPieces {
         tabu: &tabu,
+        pieces: hooks.pieces,
+    };
+    let watcher = Watcher {
+        within: WithinMemory::new(hooks.keeper, options.allowed_bytes()),
+        others: &others,
         looks: Cell::new(0),
     };
-    let beside = (&watcher, &tabu);
+    let beside = (&watcher, &others);
     let found = searched_beside(system, alloc, instance, root, start, options, beside)?;
     let best = tabu.best()?;
     Ok(with_better(instance, root, found, best))
@@ -93,13 +91,12 @@ fn searched_beside<T, S, O>(
 where
     T: Threads + Wait + time::Clock + Sync,
     S: TimedWatch,
-    O: Beside + Sync,
+    O: Beside + Pieces + Sync,
     requires limited { AreLimited options.now }
     requires start { Permutes instance.now start.now }
     requires same_size { root.now.size ≡ instance.now.size }
     ensures searched { IfOk result (λ x. IsSearched instance.now root.now start.now x.permutation x.cost x.bound) }
     ensures proof { IfOk result (λ x. x.proof ≡ None) }
-    ensures pair_proof { IfOk result (λ x. x.pair_proof ≡ None) }
 {
     let (watch, others) = beside;
     thread::scope(
@@ -111,7 +108,6 @@ where
             requires same_size { root.now.size ≡ instance.now.size }
             ensures searched { IfOk result (λ x. IsSearched instance.entry.now root.entry.now start.entry.now x.permutation x.cost x.bound) }
             ensures proof { IfOk result (λ x. x.proof ≡ None) }
-            ensures pair_proof { IfOk result (λ x. x.pair_proof ≡ None) }
         {
             for number in 0..options.tabu_threads(root) {
                 // A search whose thread cannot be started is left out.
@@ -125,7 +121,7 @@ where
     )
 }
 
-/// What a search by workers yields, who take up what is offered.
+/// What a search by workers yields, who take up what is offered, and hand on pieces of a proof.
 fn searched_by_workers<T, S, O>(
     system: &T,
     alloc: Global,
@@ -138,13 +134,12 @@ fn searched_by_workers<T, S, O>(
 where
     T: Threads + Wait + time::Clock + Sync,
     S: TimedWatch,
-    O: Offers + Sync,
+    O: Offers + Pieces + Sync,
     requires limited { AreLimited options.now }
     requires start { Permutes instance.now start.now }
     requires same_size { root.now.size ≡ instance.now.size }
     ensures searched { IfOk result (λ x. IsSearched instance.now root.now start.now x.permutation x.cost x.bound) }
     ensures proof { IfOk result (λ x. x.proof ≡ None) }
-    ensures pair_proof { IfOk result (λ x. x.pair_proof ≡ None) }
 {
     let (watch, offers) = beside;
     let easy = searched_briefly(system, alloc, instance, root, start, options, watch)?;
@@ -177,7 +172,6 @@ fn with_better(instance: &Instance, root: &Partial, found: Planned, best: Perm) 
     ensures taken { Completes root.now best → result.cost ≤ℤ cost_of instance.now best }
     ensures bound { result.bound ≡ found.bound }
     ensures proof { found.proof ≡ None → result.proof ≡ None }
-    ensures pair_proof { found.pair_proof ≡ None → result.pair_proof ≡ None }
 {
     if is_better(instance, root, &best, &found.permutation) {
         return with_permutation(instance, root, found, best);
@@ -195,7 +189,6 @@ fn with_permutation(instance: &Instance, root: &Partial, found: Planned, best: P
     ensures cost { result.cost ≡ cost_of instance.now best }
     ensures bound { result.bound ≡ found.bound }
     ensures proof { result.proof ≡ None }
-    ensures pair_proof { result.pair_proof ≡ None }
 {
     let cost = cost(instance, &best);
     Planned {
@@ -205,12 +198,11 @@ fn with_permutation(instance: &Instance, root: &Partial, found: Planned, best: P
         nodes: found.nodes,
         open_nodes: found.open_nodes,
         proof: None,
-        pair_proof: None,
     }
 }
 
-/// What a search by the bounds of Gilmore and Lawler yields if it ends within a few nodes; `None` if it does not, or if
-/// these are the bounds of the whole search.
+/// What a search by the bounds of Gilmore and Lawler yields if it ends within a few nodes; `None` if it does not, if
+/// these are the bounds of the whole search, or if a proof by pair duals is requested.
 fn searched_briefly<T, S>(
     system: &T,
     alloc: Global,
@@ -228,9 +220,8 @@ where
     requires same_size { root.now.size ≡ instance.now.size }
     ensures searched { IfOk result (λ found. IfSome found (λ x. IsSearched instance.now root.now start.now x.permutation x.cost x.bound)) }
     ensures proof { IfOk result (λ found. IfSome found (λ x. x.proof ≡ None)) }
-    ensures pair_proof { IfOk result (λ found. IfSome found (λ x. x.pair_proof ≡ None)) }
 {
-    if options.nodes.is_some() || !has_few_free(root) {
+    if options.proves || options.nodes.is_some() || !has_few_free(root) {
         return Ok(None);
     }
     let ground = Arc::new(alloc, Ground::by_rows(alloc, instance)?)?;
@@ -252,7 +243,7 @@ where
     }
 }
 
-/// What a search by these workers yields, who take up what is offered.
+/// What a search by these workers yields, who take up what is offered, and hand on pieces of a proof.
 fn searched_on<T, S, O>(
     system: &T,
     alloc: Global,
@@ -264,7 +255,7 @@ fn searched_on<T, S, O>(
 where
     T: Threads + Wait + time::Clock + Sync,
     S: Watch,
-    O: Offers + Sync,
+    O: Offers + Pieces + Sync,
     requires some { 0 < crew.workers }
     requires few { crew.workers ≤ 64 }
     requires same { arc_value task.now.ground.now ≡ instance.now }
@@ -272,21 +263,33 @@ where
     requires same_size { task.now.root.now.size ≡ instance.now.size }
     ensures searched { IfOk result (λ x. IsSearched instance.now task.now.root.now task.now.start.now x.permutation x.cost x.bound) }
     ensures proof { IfOk result (λ x. x.proof ≡ None) }
-    ensures pair_proof { IfOk result (λ x. x.pair_proof ≡ None) }
 {
     let answer = solve(system, alloc, task, crew, offers)?;
     let found = found_by(&answer)?;
     Ok(found)
 }
 
-/// Whether a root has few enough free facilities for pair duals.
-pub(crate) fn has_few_free(root: &Partial) -> bool {
-    free_in(root) <= MAX_FREE
+/// Whether a search for a proof below a root from a permutation on is by pair duals: no number is out of range, few
+/// facilities are free, no number of nodes is the limit, and the time limit is not too close this many milliseconds after
+/// the beginning of the run.
+pub(crate) fn has_pairs(
+    instance: &Instance,
+    root: &Partial,
+    start: &Perm,
+    options: &Options,
+    now: u64,
+) -> bool
+    requires { Permutes instance.now start.now }
+{
+    has_few_free(root)
+        && options.nodes.is_none()
+        && options.has_time_for_duals(root, now)
+        && has_range(instance, scale_for(cost(instance, start)))
 }
 
 /// What the workers share of the instance: for bounds under pair duals of this scale, or for those of Gilmore and
 /// Lawler if a number is out of range, many facilities are free, a number of nodes is the limit, or the time limit is
-/// too close this many milliseconds after the beginning of the run.
+/// too close this many milliseconds after the beginning of the run and no proof is requested.
 fn ground_for(
     alloc: Global,
     instance: &Instance,
@@ -300,7 +303,7 @@ fn ground_for(
 {
     if has_few_free(root)
         && options.nodes.is_none()
-        && options.has_time_for_duals(root, now)
+        && (options.proves || options.has_time_for_duals(root, now))
         && let Some(ground) = Ground::new(alloc, instance, root, scale, &Effort::root())?
     {
         return Ok(Arc::new(alloc, ground)?);
@@ -326,7 +329,6 @@ fn found_by(answer: &Answer) -> Result<Planned, AllocError>
     ensures cost { IfOk result (λ x. x.cost ≡ answer.now.best.cost) }
     ensures bound { IfOk result (λ x. x.bound ≡ answer.now.bound) }
     ensures proof { IfOk result (λ x. x.proof ≡ None) }
-    ensures pair_proof { IfOk result (λ x. x.pair_proof ≡ None) }
 {
     Ok(Planned {
         permutation: answer.best.permutation().copy()?,
@@ -335,7 +337,6 @@ fn found_by(answer: &Answer) -> Result<Planned, AllocError>
         nodes: answer.nodes,
         open_nodes: answer.open_nodes,
         proof: None,
-        pair_proof: None,
     })
 }
 
@@ -355,7 +356,6 @@ fn with_bound(found: Planned, bound: i128) -> Planned
     ensures permutation { result.permutation ≡ found.permutation }
     ensures cost { result.cost ≡ found.cost }
     ensures proof { result.proof ≡ found.proof }
-    ensures pair_proof { result.pair_proof ≡ found.pair_proof }
     ensures none_less { (c : ℤ) → found.bound ≤ℤ c → bound ≤ℤ c → result.bound ≤ℤ c }
     ensures at_most { result.bound ≤ℤ found.cost }
 {
@@ -369,34 +369,35 @@ trait TimedWatch: Watch {
     fn now(&self) -> u64;
 }
 
-/// Stops a search and the tabu searches beside it if a keeper requests it, and reports their progress to that keeper.
+/// Stops a search and the tabu searches beside it if a keeper requests it or no pieces of its proof can be kept any
+/// more, and reports their progress to that keeper.
 #[derive(Drop)]
-struct Watcher<'a, 'k, 't, T, K: Keeper> {
-    within: &'a WithinMemory<'k, K>,
-    /// The tabu searches beside it.
-    tabu: &'a Tabu<'t, T>,
+struct Watcher<'a, 'k, 't, T, K: Keeper, P> {
+    within: WithinMemory<'k, K>,
+    /// What is beside it.
+    others: &'a WithPieces<'a, 't, T, P>,
     /// The number of rounds of the thread that keeps the space so far.
     looks: Cell<u32>,
 }
 
-impl<T: Wait + time::Clock, K: Keeper> Stop for Watcher<'_, '_, '_, T, K> {
+impl<T: Wait + time::Clock, K: Keeper, P: Pieces> Stop for Watcher<'_, '_, '_, T, K, P> {
     ghost says = { λ _ _. Unit {0} };
 
     fn is_requested(&self) -> bool {
-        let is_wanted = self.within.is_wanted();
+        let is_wanted = self.within.is_wanted() || self.others.have_failed();
         if is_wanted {
-            self.tabu.halt();
+            self.others.halt();
         }
         is_wanted
     }
 }
 
-impl<T: Wait + time::Clock, K: Keeper> Watch for Watcher<'_, '_, '_, T, K> {
+impl<T: Wait + time::Clock, K: Keeper, P: Pieces> Watch for Watcher<'_, '_, '_, T, K, P> {
     fn see(&self, progress: &part_search::Progress) {
         let looks = self.looks.get().wrapping_add(1);
         self.looks.set(looks);
         if looks % ROUNDS_PER_LOOK == 0 && self.within.is_watching() {
-            let cost = progress.cost.min(self.tabu.cost());
+            let cost = progress.cost.min(self.others.tabu.cost());
             self.within.see(&Progress {
                 cost: Some(cost),
                 bound: progress.least.map(|least| least.min(cost)),
@@ -407,7 +408,7 @@ impl<T: Wait + time::Clock, K: Keeper> Watch for Watcher<'_, '_, '_, T, K> {
     }
 }
 
-impl<T: Wait + time::Clock, K: Keeper> TimedWatch for Watcher<'_, '_, '_, T, K> {
+impl<T: Wait + time::Clock, K: Keeper, P: Pieces> TimedWatch for Watcher<'_, '_, '_, T, K, P> {
     fn now(&self) -> u64 {
         self.within.now()
     }

@@ -1,8 +1,8 @@
 -- All lines of a proof with pair duals.
-use Rattle.std.proofs.Common.{◌≡◌, ℕ, ◌<◌, ◌++◌, List, [], ◌∷◌, length, ℤ, refl, sym, ◌∙◌, ap, subst, inl, inr, arith, append_assoc}
-use Rattle.std.specs.Prelude.{codes, false, Option, None, Some, IfSome, Result, Ok, Err, IfErr}
-use Rattle.std.specs.Io.KnownBytes.{Consumes}
-use Rattle.std.proofs.KnownBytes.{Consumes-trans, Consumes-whole}
+use Rattle.std.proofs.Common.{◌≡◌, ℕ, ◌<◌, ◌++◌, List, [], ◌∷◌, length, ℤ, refl, sym, ◌∙◌, ap, subst, inl, inr, arith, append_assoc, append-nil}
+use Rattle.std.specs.Prelude.{codes, false, Option, None, Some, IfSome, Result, Ok, Err, IfErr, IfOk}
+use Rattle.std.specs.Io.KnownBytes.{Appends}
+use Rattle.std.proofs.KnownBytes.{Consumes-whole}
 use Rattle.qap_cost.specs.Instance.{Problem}
 use Rattle.qap_cost.specs.Objective.{cost_of}
 use Rattle.qap_cost.specs.Placement.{Placement}
@@ -18,35 +18,41 @@ use Rattle.proof_tree.specs.Shape.{HasShape}
 use Rattle.proof_tree.specs.Text.{tree_text}
 use Rattle.proof_tree.specs.Tree.{Tree}
 use Rattle.proof_tree.specs.Valid.{Valid}
-use Rattle.proof_check.specs.Acceptance.{IsInterruption, IsPairVerdictOf, ReadsHead, ReadsLeaves, ReadsVerdict, RefusesNoProof, pair_head_text}
+use Rattle.proof_check.specs.Acceptance.{CopiesLeaves, IsInterruption, IsPairVerdictOf, ReadsHead, ReadsLeaves, ReadsVerdict, RefusesNoProof, pair_head_text}
 use Rattle.proof_check.specs.Completeness.{Any, BeginsTree, BeginsWithLine, EndsWith, HasHead, HasTree, IsCurrent, IsHeadOf}
 use Rattle.proof_check.specs.Fault.{FaultKind, IsReadFault, RefusesPairs, content, grammar, interruption, kind_of}
+use Rattle.proof_check.specs.Flow.{Flow, Passes}
 use Rattle.proof_check.specs.Walk.{SkimsTree, WalksTree}
+use Rattle.proof_check.specs.declared.acceptance.Checked.{Checked}
+use Rattle.proof_check.proofs.Flows.{Passes-trans}
 
 -- the cost step is positive
 pub step-positive : (I : Problem) (step : ℕ) → step ≡ step_of I → 0 < step
 step-positive I step is = omega (arith, is)
 
--- the text of a proof was read, which is all that the reader had if that is known
-pub record ReadsProof (x : Placement) (cost bound : ℤ) (p : List ℕ) (t : Tree) (a : Option (List ℕ)) : Type 0 where
+-- the text of a proof was read, which is all that the reader had if that is known, and copied
+pub record ReadsProof (x : Placement) (cost bound : ℤ) (p : List ℕ) (t : Tree) (a e : Flow) : Type 0 where
   pub text : List ℕ
-  pub whole : IfSome a (λ xs. xs ≡ text)
+  pub whole : IfSome a.left (λ xs. xs ≡ text)
+  pub copied : Appends a.copied e.copied text
   pub is_text : IsPairProofText text (pair_claim x cost bound p t)
 
 -- a proof's head, its tree and its last line were read
-pub ReadsProof-all : (x : Placement) (cost bound : ℤ) (p line : List ℕ) (a b c : Option (List ℕ)) → ReadsHead x cost bound p line a b → (w : SkimsTree x false line b c) → EndsWith c → ReadsProof x cost bound p w.tree a
-ReadsProof-all x cost bound p line a b c head w end =
+pub ReadsProof-all : (x : Placement) (cost bound : ℤ) (p line : List ℕ) (a b c e : Flow) → ReadsHead x cost bound p line a b → (w : SkimsTree x false line b c) → EndsWith c e → ReadsProof x cost bound p w.tree a e
+ReadsProof-all x cost bound p line a b c e head w end =
     let H = pair_head_text x cost bound p in
     let C = pair_claim x cost bound p w.tree in
     let E = codes "end\n" in
     let d = end.0 in
     let first = (H ++ line) ++ 10 ∷ [] in
-    let all : Consumes a d ((first ++ w.text) ++ E) = Consumes-trans a c d (first ++ w.text) E (Consumes-trans a b c first w.text head.consumed w.consumed) end.1 in
+    let all : Passes a d ((first ++ w.text) ++ E) = Passes-trans a c d (first ++ w.text) E (Passes-trans a b c first w.text head.consumed w.consumed) end.1 in
+    let last : Passes a e (((first ++ w.text) ++ E) ++ []) = Passes-trans a d e ((first ++ w.text) ++ E) [] all end.3 in
     let tree_is : first ++ w.text ≡ H ++ tree_text w.tree = append_assoc (H ++ line) (10 ∷ []) w.text ∙ append_assoc H line (10 ∷ w.text) ∙ ap (λ l. H ++ l) w.is in
     let whole : (first ++ w.text) ++ E ≡ pair_proof_text C = ap (λ l. l ++ E) tree_is in
     record {
       text = pair_proof_text C;
-      whole = Consumes-whole a d ((first ++ w.text) ++ E) (λ xs. xs ≡ pair_proof_text C) all end.2 whole;
+      whole = Consumes-whole a.left d.left ((first ++ w.text) ++ E) (λ xs. xs ≡ pair_proof_text C) all.consumed end.2 whole;
+      copied = subst (Appends a.copied e.copied) (append-nil ((first ++ w.text) ++ E) ∙ whole) last.appended;
       is_text = record {
         proof = record { cost = head.cost; bound = head.bound; permutation = head.permutation; root = head.root; tree = w.shape };
         is = refl;
@@ -54,24 +60,36 @@ ReadsProof-all x cost bound p line a b c head w end =
     }
 
 -- likewise, and the tree is valid, with these leaves
-pub ReadsLeaves-all : (I : Problem) (step : ℕ) (x : Placement) (cost bound limit : ℤ) (p line : List ℕ) (a b c : Option (List ℕ)) (ls : List Leaf) → step ≡ step_of I → ReadsHead x cost bound p line a b → length p ≡ I.size → cost_of I p ≡ cost
-    → WalksTree I step bound limit x None line b c [] ls → EndsWith c → ReadsLeaves I a x cost bound limit ls
-ReadsLeaves-all I step x cost bound limit p line a b c ls step_is head size costs w end =
-    let r = ReadsProof-all x cost bound p line a b c head w.skimmed end in
+pub CopiesLeaves-all : (I : Problem) (step : ℕ) (x : Placement) (cost bound limit : ℤ) (p line : List ℕ) (a b c e : Flow) (ls : List Leaf) → step ≡ step_of I → ReadsHead x cost bound p line a b → length p ≡ I.size → cost_of I p ≡ cost
+    → WalksTree I step bound limit x None line b c [] ls → EndsWith c e → CopiesLeaves I a e x cost bound limit p ls
+CopiesLeaves-all I step x cost bound limit p line a b c e ls step_is head size costs w end =
+    let r = ReadsProof-all x cost bound p line a b c e head w.skimmed end in
     let t = w.skimmed.tree in
     let has : HasLeaves I (step_of I) bound limit x None t ls =
     subst (λ (k : ℕ). HasLeaves I k bound limit x None t ls) step_is (subst (HasLeaves I step bound limit x None t) (sym w.listed) w.valid) in
     record {
       text = r.text;
       whole = r.whole;
-      shows = record {
-        permutation = p;
-        tree = t;
-        is_text = r.is_text;
-        proved = record { same_size = size; cost = costs; tree = HasLeaves-valid t I (step_of I) bound limit x None ls has };
-        leaves = has;
-      };
+      copied = r.copied;
+      tree = t;
+      is_text = r.is_text;
+      proved = record { same_size = size; cost = costs; tree = HasLeaves-valid t I (step_of I) bound limit x None ls has };
+      leaves = has;
     }
+
+-- what was copied was read
+pub ReadsLeaves-copied : (I : Problem) (old new : Flow) (x : Placement) (c g limit : ℤ) (p : List ℕ) (ls : List Leaf) → CopiesLeaves I old new x c g limit p ls → ReadsLeaves I old.left x c g limit ls
+ReadsLeaves-copied I old new x c g limit p ls h = record {
+  text = h.text;
+  whole = h.whole;
+  shows = record { permutation = p; tree = h.tree; is_text = h.is_text; proved = h.proved; leaves = h.leaves };
+}
+
+-- likewise for what a call found, where it is known what the reader had
+pub read_copied : (I : Problem) (old new : Flow) (known : Option (List ℕ)) (limit : Checked → ℤ) (r : Result Checked ProofError) → old.left ≡ known → IfOk r (λ c. CopiesLeaves I old new c.root c.cost c.bound (limit c) c.permutation c.leaves.items)
+    → IfOk r (λ c. ReadsLeaves I known c.root c.cost c.bound (limit c) c.leaves.items)
+read_copied I old new known limit (Ok c) is h = subst (λ (o : Option (List ℕ)). ReadsLeaves I o c.root c.cost c.bound (limit c) c.leaves.items) is (ReadsLeaves-copied I old new c.root c.cost c.bound (limit c) c.permutation c.leaves.items h)
+read_copied I old new known limit (Err e) is h = tt
 
 -- a proof whose leaves were read has its verdict
 pub ReadsVerdict-leaves : (I : Problem) (old : Option (List ℕ)) (x : Placement) (c g limit : ℤ) (ls : List Leaf) (v : Verdict) → ReadsLeaves I old x c g limit ls → ((p : List ℕ) (t : Tree) → IsPairVerdictOf (pair_claim x c g p t) v)
@@ -150,8 +168,8 @@ read_refused I old e (inl kind) refuses = λ text known. inl (kind, λ proof. no
 read_refused I old e (inr stopped) refuses = λ text known. inr (inr stopped)
 
 -- one of content is found where the text of a proof was read, in none of a valid one
-pub content_refused : (I : Problem) (x : Placement) (cost bound : ℤ) (p : List ℕ) (t : Tree) (old : Option (List ℕ)) (e : ProofError) → kind_of e ≡ content → ReadsProof x cost bound p t old → ((C : PairClaim) (text : List ℕ) → old ≡ Some text → IsPairProofText text C → PairProves I C → ⊥) → RefusesPairs I old e
-content_refused I x cost bound p t old e kind read none = λ text known.
+pub content_refused : (I : Problem) (x : Placement) (cost bound : ℤ) (p : List ℕ) (t : Tree) (old new : Flow) (e : ProofError) → kind_of e ≡ content → ReadsProof x cost bound p t old new → ((C : PairClaim) (text : List ℕ) → old.left ≡ Some text → IsPairProofText text C → PairProves I C → ⊥) → RefusesPairs I old.left e
+content_refused I x cost bound p t old new e kind read none = λ text known.
     let is : text ≡ read.text = subst (λ (o : Option (List ℕ)). IfSome o (λ xs. xs ≡ read.text)) known read.whole in
     inr (inl (kind, (pair_claim x cost bound p t, subst (λ (l : List ℕ). IsPairProofText l (pair_claim x cost bound p t)) (sym is) read.is_text), λ proved. none proved.0 text known proved.1 proved.2))
 

@@ -1,9 +1,7 @@
 -- The lines before the tree.
 use Rattle.std.proofs.Common.{◌≡◌, ℕ, ◌<◌, ◌++◌, List, [], ◌∷◌, length, drop, ℤ, refl, sym, ◌∙◌, ap, subst, arith, append_assoc}
 use Rattle.std.proofs.lemmas.Bool.{cond-true}
-use Rattle.std.specs.Prelude.{Option, codes, int_lt}
-use Rattle.std.specs.Io.KnownBytes.{Consumes}
-use Rattle.std.proofs.KnownBytes.{Consumes-nil, Consumes-trans}
+use Rattle.std.specs.Prelude.{codes, int_lt}
 use Rattle.qap_cost.specs.Placement.{Placement}
 use Rattle.qap_lines.specs.LineText.{line_text, numbers_text}
 use Rattle.qap_lines.specs.Number.{IsNamed}
@@ -13,15 +11,17 @@ use Rattle.qap_proof.specs.Claim.{IsRoot}
 use Rattle.qap_proof.specs.NodeText.{node_text}
 use Rattle.qap_proof.specs.Text.{by_turns, root_text, bound_text}
 use Rattle.qap_proof.specs.TextFault.{IsBelow}
+use Rattle.proof_check.specs.Flow.{Flow, Passes}
 use Rattle.proof_check.specs.Walk.{ReadsBehind}
+use Rattle.proof_check.proofs.Flows.{Passes-nil, Passes-trans}
 use Rattle.proof_check.proofs.Lines.{line_text-named, named-is}
 
 -- nothing is there
-pub ReadsBehind-none : (line : List ℕ) (a : Option (List ℕ)) → ReadsBehind line [] line a a
-ReadsBehind-none line a = ([], Consumes-nil a, refl)
+pub ReadsBehind-none : (line : List ℕ) (a : Flow) → ReadsBehind line [] line a a
+ReadsBehind-none line a = ([], Passes-nil a, refl)
 
 -- the current line is the text, and the next one was read
-pub ReadsBehind-line : (before text line : List ℕ) (a b : Option (List ℕ)) → before ++ 10 ∷ [] ≡ text → Consumes a b (line ++ 10 ∷ []) → ReadsBehind before text line a b
+pub ReadsBehind-line : (before text line : List ℕ) (a b : Flow) → before ++ 10 ∷ [] ≡ text → Passes a b (line ++ 10 ∷ []) → ReadsBehind before text line a b
 ReadsBehind-line before text line a b is read =
     (line ++ 10 ∷ [], read, sym (append_assoc before (10 ∷ []) (line ++ 10 ∷ [])) ∙ ap (λ l. l ++ (line ++ 10 ∷ [])) is ∙ sym (append_assoc text line (10 ∷ [])))
 
@@ -42,17 +42,17 @@ bound_line c g line below named =
     ∙ sym (cond-true (int_lt g c) (line_text (codes "bound") (g ∷ [])) [] (int_lt-yes g c below.less))
 
 -- all lines of a head, and the one behind it
-pub head_read : (a b c d e f g h : Option (List ℕ)) (version size cost perm line root after bound last : List ℕ) → Consumes a b version → Consumes b c size → Consumes c d cost → Consumes d e perm → Consumes e f (line ++ 10 ∷ [])
-    → ReadsBehind line root after f g → ReadsBehind after bound last g h → Consumes a h ((version ++ size ++ cost ++ perm ++ root ++ bound) ++ last ++ 10 ∷ [])
+pub head_read : (a b c d e f g h : Flow) (version size cost perm line root after bound last : List ℕ) → Passes a b version → Passes b c size → Passes c d cost → Passes d e perm → Passes e f (line ++ 10 ∷ [])
+    → ReadsBehind line root after f g → ReadsBehind after bound last g h → Passes a h ((version ++ size ++ cost ++ perm ++ root ++ bound) ++ last ++ 10 ∷ [])
 head_read a b c d e f g h version size cost perm line root after bound last r1 r2 r3 r4 r5 r6 r7 =
     let end = 10 ∷ [] in
     let X = ((version ++ size) ++ cost) ++ perm in
-    let front : Consumes a e X = Consumes-trans a d e ((version ++ size) ++ cost) perm (Consumes-trans a c d (version ++ size) cost (Consumes-trans a b c version size r1 r2) r3) r4 in
-    let rest = Consumes-trans e f h (line ++ end) (r6.0 ++ r7.0) r5 (Consumes-trans f g h r6.0 r7.0 r6.1 r7.1) in
+    let front : Passes a e X = Passes-trans a d e ((version ++ size) ++ cost) perm (Passes-trans a c d (version ++ size) cost (Passes-trans a b c version size r1 r2) r3) r4 in
+    let rest = Passes-trans e f h (line ++ end) (r6.0 ++ r7.0) r5 (Passes-trans f g h r6.0 r7.0 r6.1 r7.1) in
     let one : (line ++ end) ++ (r6.0 ++ r7.0) ≡ root ++ ((bound ++ last) ++ end) =
     sym (append_assoc (line ++ end) r6.0 r7.0) ∙ ap (λ l. l ++ r7.0) (append_assoc line end r6.0 ∙ r6.2)
     ∙ append_assoc (root ++ after) end r7.0 ∙ append_assoc root after (10 ∷ r7.0) ∙ ap (λ l. root ++ l) r7.2 in
     let two : X ++ (root ++ ((bound ++ last) ++ end)) ≡ (((X ++ root) ++ bound) ++ last) ++ end =
     sym (append_assoc ((X ++ root) ++ bound) last end ∙ append_assoc (X ++ root) bound (last ++ end) ∙ append_assoc X root (bound ++ (last ++ end))
     ∙ ap (λ l. X ++ (root ++ l)) (sym (append_assoc bound last end))) in
-    subst (Consumes a h) (ap (λ l. X ++ l) one ∙ two) (Consumes-trans a e h X ((line ++ end) ++ (r6.0 ++ r7.0)) front rest)
+    subst (Passes a h) (ap (λ l. X ++ l) one ∙ two) (Passes-trans a e h X ((line ++ end) ++ (r6.0 ++ r7.0)) front rest)

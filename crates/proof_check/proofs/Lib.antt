@@ -1,6 +1,7 @@
 pub mod Accepting
 pub mod ClosedRefusals
 pub mod Closing
+pub mod Flows
 pub mod HeadRefusals
 pub mod HeadSteps
 pub mod Heads

@@ -4,7 +4,6 @@ use Rattle.std.proofs.lemmas.Int.{ints}
 use Rattle.std.specs.Prelude.{Option, None, Some, MatchOption, ◌≢◌, negsuc}
 use Rattle.std.specs.Int.{w128}
 use Rattle.qap_lines.proofs.Numerals.{reads_wide}
-use Rattle.std.specs.Io.KnownBytes.{Consumes}
 use Rattle.qap_cost.specs.Range.{AllLimited}
 use Rattle.qap_lines.specs.LineText.{line_text, numbers_text}
 use Rattle.qap_lines.specs.Number.{IsNamed, held}
@@ -12,6 +11,7 @@ use Rattle.qap_lines.proofs.NumberLists.{AllLimited-one, held-within, held_withi
 use Rattle.qap_lines.proofs.Held.{held-all_within}
 use Rattle.std.proofs.lemmas.List.{take_all, take-append-drop, drop_more, length-drop}
 use Rattle.proof_tree.specs.Shape.{AreLimited}
+use Rattle.proof_check.specs.Flow.{Flow, Passes}
 use Rattle.proof_check.proofs.Refusals.{no_number}
 
 -- a line of a name and limited numbers
@@ -30,13 +30,13 @@ one_limited name line v h small =
     named-is name line (h.0 ∷ []) h.1 (AllLimited-one h.0 limited) ∙ ap (λ (z : ℤ). name ++ numbers_text (z ∷ [])) same
 
 -- a line of one limited number that was read
-pub one_line : (a b : Option (List ℕ)) (name line : List ℕ) (v : ℤ) → Consumes a b (line ++ 10 ∷ []) → ((z : ℤ) × IsNamed name line (z ∷ []) × (v ≡ held z)) → unsigned_abs v ≤ 10 ^ 24 → Consumes a b (line_text name (v ∷ []))
-one_line a b name line v read h small = subst (Consumes a b) (line_text-named name line (v ∷ []) (one_limited name line v h small)) read
+pub one_line : (a b : Flow) (name line : List ℕ) (v : ℤ) → Passes a b (line ++ 10 ∷ []) → ((z : ℤ) × IsNamed name line (z ∷ []) × (v ≡ held z)) → unsigned_abs v ≤ 10 ^ 24 → Passes a b (line_text name (v ∷ []))
+one_line a b name line v read h small = subst (Passes a b) (line_text-named name line (v ∷ []) (one_limited name line v h small)) read
 
 -- a line that was read, by what it was found to say
-pub named_line : (a b : Option (List ℕ)) (name line lent : List ℕ) (zs : List ℤ) → lent ≡ line → IsNamed name lent zs → AllLimited zs → Consumes a b (line ++ 10 ∷ []) → Consumes a b (line_text name zs)
+pub named_line : (a b : Flow) (name line lent : List ℕ) (zs : List ℤ) → lent ≡ line → IsNamed name lent zs → AllLimited zs → Passes a b (line ++ 10 ∷ []) → Passes a b (line_text name zs)
 named_line a b name line lent zs same named limited read =
-    subst (Consumes a b) (ap (λ l. l ++ 10 ∷ []) (sym same) ∙ line_text-named name lent zs (named-is name lent zs named limited)) read
+    subst (Passes a b) (ap (λ l. l ++ 10 ∷ []) (sym same) ∙ line_text-named name lent zs (named-is name lent zs named limited)) read
 
 held-near : (z : ℤ) → unsigned_abs (held z) ≤ 10 ^ 25
 held-near (pos n) = omega arith

@@ -1,8 +1,6 @@
 -- Trees that were read, one child after another.
 use Rattle.std.proofs.Common.{◌≡◌, ℕ, ◌+◌, ◌<◌, ◌≤◌, ◌++◌, List, [], ◌∷◌, length, take, drop, get_or, ℤ, pos, refl, sym, ◌∙◌, ap, ap₂, subst, arith, append_assoc, append-nil}
 use Rattle.std.specs.Prelude.{Bool, codes, Option, None, Some, true}
-use Rattle.std.specs.Io.KnownBytes.{Consumes}
-use Rattle.std.proofs.KnownBytes.{Consumes-nil, Consumes-trans}
 use Rattle.std.proofs.lemmas.List.{length-take-le, take_all, take-append-drop, take_more}
 use Rattle.qap_cost.specs.Instance.{Problem}
 use Rattle.qap_cost.specs.Placement.{Placement}
@@ -18,7 +16,9 @@ use Rattle.proof_tree.specs.Shape.{AreLimited, ArePairRows, AreNodeDuals, HasSha
 use Rattle.proof_tree.specs.Text.{image_text, own_text, rows_text, tree_text, children_text, split_text, marks}
 use Rattle.proof_tree.specs.Tree.{PairRows, NodeDuals, Image, Tree, leaf, split, Children, no_children, closed, image, grown, child_count, row_of, column_of, child_on}
 use Rattle.proof_tree.specs.Valid.{AreListed, Begins, IsClosed, IsLined, ReachesBound, Under, under}
+use Rattle.proof_check.specs.Flow.{Flow, Passes}
 use Rattle.proof_check.specs.Walk.{PushesLeaf, SkimsChildren, SkimsLined, SkimsSplit, SkimsTree, WalksChildren, WalksLined, WalksSplit, WalksTree, is_there, own_of}
+use Rattle.proof_check.proofs.Flows.{Passes-nil, Passes-trans}
 use Rattle.proof_check.proofs.Lines.{line_text-named}
 
 -- the duals of a node that has no pair duals of its own
@@ -39,11 +39,11 @@ marks_count (image m rest) = let more = marks_count rest in omega (arith, more)
 marks_count (grown t rest) = let more = marks_count rest in omega (arith, more)
 
 -- a leaf
-pub SkimsLined-leaf : (y : Placement) (m : ℕ) (u : List ℤ) (line : List ℕ) (a : Option (List ℕ)) → m ≡ free_count y → AreLimited m u → line ≡ codes "x" ++ numbers_text u → SkimsLined y line a a
+pub SkimsLined-leaf : (y : Placement) (m : ℕ) (u : List ℤ) (line : List ℕ) (a : Flow) → m ≡ free_count y → AreLimited m u → line ≡ codes "x" ++ numbers_text u → SkimsLined y line a a
 SkimsLined-leaf y m u line a same limited is = record {
   skimmed = record {
     text = [];
-    consumed = Consumes-nil a;
+    consumed = Passes-nil a;
     tree = leaf (duals_without u);
     is = line_text-named (codes "x") line u is;
     shape = stated y m u same limited;
@@ -52,7 +52,7 @@ SkimsLined-leaf y m u line a same limited is = record {
 }
 
 -- one that reaches the bound
-pub WalksLined-leaf : (I : Problem) (step : ℕ) (bound cost : ℤ) (y : Placement) (D : Duals) (old new : Form) (m : ℕ) (u v : List ℤ) (line : List ℕ) (a : Option (List ℕ)) (before after : List Leaf) → m ≡ free_count y → AreLimited m u → line ≡ codes "x" ++ numbers_text u → IsLine old new u v
+pub WalksLined-leaf : (I : Problem) (step : ℕ) (bound cost : ℤ) (y : Placement) (D : Duals) (old new : Form) (m : ℕ) (u v : List ℤ) (line : List ℕ) (a : Flow) (before after : List Leaf) → m ≡ free_count y → AreLimited m u → line ≡ codes "x" ++ numbers_text u → IsLine old new u v
     → PushesLeaf (λ g. ReachesBound step g D.scale new.value) bound cost y before after → WalksLined I step bound cost y (under D old) line a a before after
 unfolding SkimsLined-leaf
 WalksLined-leaf I step bound cost y D old new m u v line a before after same limited is drawn pushed = record {
@@ -69,7 +69,7 @@ split_count : (ts : Children) (m k : ℕ) (marked : List ℕ) → marks ts ≡ m
 split_count ts m k marked are long same = sym (marks_count ts) ∙ ap length are ∙ long ∙ same
 
 -- a split and its children
-pub SkimsLined-split : (y : Placement) (m : ℕ) (u : List ℤ) (side : Side) (number : ℕ) (marked line : List ℕ) (a b : Option (List ℕ)) → m ≡ free_count y → AreLimited m u → length marked ≡ m → line ++ 10 ∷ [] ≡ split_text side number marked u → SkimsSplit y side number marked a b → SkimsLined y line a b
+pub SkimsLined-split : (y : Placement) (m : ℕ) (u : List ℤ) (side : Side) (number : ℕ) (marked line : List ℕ) (a b : Flow) → m ≡ free_count y → AreLimited m u → length marked ≡ m → line ++ 10 ∷ [] ≡ split_text side number marked u → SkimsSplit y side number marked a b → SkimsLined y line a b
 SkimsLined-split y m u side number marked line a b same limited long is h =
     let w = h.skimmed in
     record {
@@ -84,11 +84,11 @@ SkimsLined-split y m u side number marked line a b same limited long is h =
     }
 
 -- the grammar of a split that is valid
-skimmed_split : (I : Problem) (step : ℕ) (bound cost : ℤ) (y : Placement) (now : Under) (side : Side) (number : ℕ) (marked : List ℕ) (a b : Option (List ℕ)) (before after : List Leaf) → WalksSplit I step bound cost y now side number marked a b before after → SkimsSplit y side number marked a b
+skimmed_split : (I : Problem) (step : ℕ) (bound cost : ℤ) (y : Placement) (now : Under) (side : Side) (number : ℕ) (marked : List ℕ) (a b : Flow) (before after : List Leaf) → WalksSplit I step bound cost y now side number marked a b before after → SkimsSplit y side number marked a b
 skimmed_split I step bound cost y now side number marked a b before after h = record { own = h.own; place = h.place; skimmed = h.walked.skimmed }
 
 -- a split and its children, which are valid
-pub WalksLined-split : (I : Problem) (step : ℕ) (bound cost : ℤ) (y : Placement) (D : Duals) (old new : Form) (m : ℕ) (u v : List ℤ) (side : Side) (number : ℕ) (marked line : List ℕ) (a b : Option (List ℕ)) (before after : List Leaf) → m ≡ free_count y → length y.facilities + free_count y ≡ y.size
+pub WalksLined-split : (I : Problem) (step : ℕ) (bound cost : ℤ) (y : Placement) (D : Duals) (old new : Form) (m : ℕ) (u v : List ℤ) (side : Side) (number : ℕ) (marked line : List ℕ) (a b : Flow) (before after : List Leaf) → m ≡ free_count y → length y.facilities + free_count y ≡ y.size
     → AreLimited m u → length marked ≡ m → line ++ 10 ∷ [] ≡ split_text side number marked u → IsLine old new u v → WalksSplit I step bound cost y (under D new) side number marked a b before after
     → WalksLined I step bound cost y (under D old) line a b before after
 unfolding SkimsLined-split skimmed_split
@@ -143,14 +143,14 @@ with_own-valid P (leaf d) I step bound cost y D R above ls bare listed fit start
 with_own-valid P (split d side number ts) I step bound cost y D R above ls bare listed fit start h = (h.0, h.1, begun I y D R P d above h.0 bare listed fit start h.2, h.3, h.4, h.5)
 
 -- the line of the scale, the rows, and the tree by them
-pub SkimsTree-own : (y : Placement) (above : Bool) (P : PairRows) (line next : List ℕ) (a b c d : Option (List ℕ)) → line ≡ codes "p" ++ numbers_text (pos P.scale ∷ []) → ArePairRows (free_count y) P → Consumes a b (rows_text P.rows) → Consumes b c (next ++ 10 ∷ []) → SkimsLined y next c d → SkimsTree y above line a d
+pub SkimsTree-own : (y : Placement) (above : Bool) (P : PairRows) (line next : List ℕ) (a b c d : Flow) → line ≡ codes "p" ++ numbers_text (pos P.scale ∷ []) → ArePairRows (free_count y) P → Passes a b (rows_text P.rows) → Passes b c (next ++ 10 ∷ []) → SkimsLined y next c d → SkimsTree y above line a d
 SkimsTree-own y above P line next a b c d is rows read advanced h =
     let w = h.skimmed in
     let rest = (next ++ 10 ∷ []) ++ w.text in
     let tree_is : rest ≡ tree_text w.tree = append_assoc next (10 ∷ []) w.text ∙ w.is in
     record {
       text = rows_text P.rows ++ rest;
-      consumed = Consumes-trans a b d (rows_text P.rows) rest read (Consumes-trans b c d (next ++ 10 ∷ []) w.text advanced w.consumed);
+      consumed = Passes-trans a b d (rows_text P.rows) rest read (Passes-trans b c d (next ++ 10 ∷ []) w.text advanced w.consumed);
       tree = with_own P w.tree;
       is = sym (append_assoc line (10 ∷ []) (rows_text P.rows ++ rest)) ∙ ap (λ l. l ++ (rows_text P.rows ++ rest)) (line_text-named (codes "p") line (pos P.scale ∷ []) is)
           ∙ sym (append_assoc (line_text (codes "p") (pos P.scale ∷ [])) (rows_text P.rows) rest) ∙ ap (λ l. own_text (Some P) ++ l) tree_is ∙ sym (with_own-text P w.tree h.bare);
@@ -158,8 +158,8 @@ SkimsTree-own y above P line next a b c d is rows read advanced h =
     }
 
 -- likewise where that is valid
-pub WalksTree-own : (I : Problem) (step : ℕ) (bound cost : ℤ) (y : Placement) (above : Option Under) (D : Duals) (R : Form) (P : PairRows) (line next : List ℕ) (a b c d : Option (List ℕ)) (before after : List Leaf) → line ≡ codes "p" ++ numbers_text (pos P.scale ∷ []) → ArePairRows (free_count y) P → Consumes a b (rows_text P.rows)
-    → Consumes b c (next ++ 10 ∷ []) → AreListed y P D → Fit I D → IsStart I D y R → WalksLined I step bound cost y (under D R) next c d before after
+pub WalksTree-own : (I : Problem) (step : ℕ) (bound cost : ℤ) (y : Placement) (above : Option Under) (D : Duals) (R : Form) (P : PairRows) (line next : List ℕ) (a b c d : Flow) (before after : List Leaf) → line ≡ codes "p" ++ numbers_text (pos P.scale ∷ []) → ArePairRows (free_count y) P → Passes a b (rows_text P.rows)
+    → Passes b c (next ++ 10 ∷ []) → AreListed y P D → Fit I D → IsStart I D y R → WalksLined I step bound cost y (under D R) next c d before after
     → WalksTree I step bound cost y above line a d before after
 unfolding SkimsTree-own
 WalksTree-own I step bound cost y above D R P line next a b c d before after is rows read advanced listed fit start h =
@@ -174,11 +174,11 @@ WalksTree-own I step bound cost y above D R P line next a b c d before after is 
 -- ---- one child
 
 -- a child that is closed without a text
-pub SkimsChildren-closed : (y : Placement) (side : Side) (own c : ℕ) (a : Option (List ℕ)) → SkimsChildren y side own c (46 ∷ []) a a
-SkimsChildren-closed y side own c a = record { text = []; consumed = Consumes-nil a; children = closed no_children; marks_are = refl; is = refl; shapes = tt }
+pub SkimsChildren-closed : (y : Placement) (side : Side) (own c : ℕ) (a : Flow) → SkimsChildren y side own c (46 ∷ []) a a
+SkimsChildren-closed y side own c a = record { text = []; consumed = Passes-nil a; children = closed no_children; marks_are = refl; is = refl; shapes = tt }
 
 -- one that reaches the bound
-pub WalksChildren-closed : (I : Problem) (step : ℕ) (bound cost : ℤ) (y : Placement) (now : Under) (side : Side) (own c : ℕ) (a : Option (List ℕ)) (before after : List Leaf)
+pub WalksChildren-closed : (I : Problem) (step : ℕ) (bound cost : ℤ) (y : Placement) (now : Under) (side : Side) (own c : ℕ) (a : Flow) (before after : List Leaf)
     → PushesLeaf (λ g. IsClosed I step g now (row_of side own c) (column_of side own c)) bound cost (child_on side y own c) before after → WalksChildren I step bound cost y now side own c (46 ∷ []) a a before after
 unfolding SkimsChildren-closed
 WalksChildren-closed I step bound cost y now side own c a before after h = record {
@@ -189,7 +189,7 @@ WalksChildren-closed I step bound cost y now side own c a before after h = recor
 }
 
 -- a child that is the image of an earlier one
-pub SkimsChildren-image : (y : Placement) (side : Side) (own c : ℕ) (line : List ℕ) (m : Image) (a b : Option (List ℕ)) → Consumes a b (line ++ 10 ∷ []) → line ++ 10 ∷ [] ≡ image_text m → IsImageOf y.size c m → SkimsChildren y side own c (43 ∷ []) a b
+pub SkimsChildren-image : (y : Placement) (side : Side) (own c : ℕ) (line : List ℕ) (m : Image) (a b : Flow) → Passes a b (line ++ 10 ∷ []) → line ++ 10 ∷ [] ≡ image_text m → IsImageOf y.size c m → SkimsChildren y side own c (43 ∷ []) a b
 SkimsChildren-image y side own c line m a b read is shape = record {
   text = line ++ 10 ∷ [];
   consumed = read;
@@ -200,7 +200,7 @@ SkimsChildren-image y side own c line m a b read is shape = record {
 }
 
 -- one by permutations that map that child to it
-pub WalksChildren-image : (I : Problem) (step : ℕ) (bound cost : ℤ) (y : Placement) (now : Under) (side : Side) (own c : ℕ) (line : List ℕ) (m : Image) (a b : Option (List ℕ)) (before : List Leaf) → Consumes a b (line ++ 10 ∷ []) → line ++ 10 ∷ [] ≡ image_text m → IsImageOf y.size c m → IsImage I y side own c m
+pub WalksChildren-image : (I : Problem) (step : ℕ) (bound cost : ℤ) (y : Placement) (now : Under) (side : Side) (own c : ℕ) (line : List ℕ) (m : Image) (a b : Flow) (before : List Leaf) → Passes a b (line ++ 10 ∷ []) → line ++ 10 ∷ [] ≡ image_text m → IsImageOf y.size c m → IsImage I y side own c m
     → WalksChildren I step bound cost y now side own c (43 ∷ []) a b before before
 unfolding SkimsChildren-image
 WalksChildren-image I step bound cost y now side own c line m a b before read is shape takes = record {
@@ -211,10 +211,10 @@ WalksChildren-image I step bound cost y now side own c line m a b before read is
 }
 
 -- a child with a tree
-pub SkimsChildren-grown : (y : Placement) (side : Side) (own c : ℕ) (line : List ℕ) (a b d : Option (List ℕ)) → Consumes a b (line ++ 10 ∷ []) → SkimsTree (child_on side y own c) true line b d → SkimsChildren y side own c (43 ∷ []) a d
+pub SkimsChildren-grown : (y : Placement) (side : Side) (own c : ℕ) (line : List ℕ) (a b d : Flow) → Passes a b (line ++ 10 ∷ []) → SkimsTree (child_on side y own c) true line b d → SkimsChildren y side own c (43 ∷ []) a d
 SkimsChildren-grown y side own c line a b d read h = record {
   text = (line ++ 10 ∷ []) ++ h.text;
-  consumed = Consumes-trans a b d (line ++ 10 ∷ []) h.text read h.consumed;
+  consumed = Passes-trans a b d (line ++ 10 ∷ []) h.text read h.consumed;
   children = grown h.tree no_children;
   marks_are = refl;
   is = append_assoc line (10 ∷ []) h.text ∙ h.is ∙ sym (append-nil (tree_text h.tree));
@@ -222,7 +222,7 @@ SkimsChildren-grown y side own c line a b d read h = record {
 }
 
 -- one that is valid
-pub WalksChildren-grown : (I : Problem) (step : ℕ) (bound cost : ℤ) (y : Placement) (now : Under) (side : Side) (own c : ℕ) (R : Form) (line : List ℕ) (a b d : Option (List ℕ)) (before after : List Leaf) → Consumes a b (line ++ 10 ∷ []) → IsChild I now.duals now.form (row_of side own c) (column_of side own c) R
+pub WalksChildren-grown : (I : Problem) (step : ℕ) (bound cost : ℤ) (y : Placement) (now : Under) (side : Side) (own c : ℕ) (R : Form) (line : List ℕ) (a b d : Flow) (before after : List Leaf) → Passes a b (line ++ 10 ∷ []) → IsChild I now.duals now.form (row_of side own c) (column_of side own c) R
     → WalksTree I step bound cost (child_on side y own c) (Some (under now.duals R)) line b d before after → WalksChildren I step bound cost y now side own c (43 ∷ []) a d before after
 unfolding SkimsChildren-grown
 WalksChildren-grown I step bound cost y now side own c R line a b d before after read child h = record {
@@ -282,26 +282,26 @@ joined-valid (grown t rest) others I step bound cost y now side own c d ls ks at
 )
 
 -- no child yet
-pub SkimsChildren-none : (y : Placement) (side : Side) (own c : ℕ) (a : Option (List ℕ)) → SkimsChildren y side own c [] a a
-SkimsChildren-none y side own c a = record { text = []; consumed = Consumes-nil a; children = no_children; marks_are = refl; is = refl; shapes = tt }
+pub SkimsChildren-none : (y : Placement) (side : Side) (own c : ℕ) (a : Flow) → SkimsChildren y side own c [] a a
+SkimsChildren-none y side own c a = record { text = []; consumed = Passes-nil a; children = no_children; marks_are = refl; is = refl; shapes = tt }
 
 -- children and then others
-pub SkimsChildren-more : (y : Placement) (side : Side) (own c d : ℕ) (marked others : List ℕ) (a b e : Option (List ℕ)) → d ≡ c + length marked → SkimsChildren y side own c marked a b → SkimsChildren y side own d others b e → SkimsChildren y side own c (marked ++ others) a e
+pub SkimsChildren-more : (y : Placement) (side : Side) (own c d : ℕ) (marked others : List ℕ) (a b e : Flow) → d ≡ c + length marked → SkimsChildren y side own c marked a b → SkimsChildren y side own d others b e → SkimsChildren y side own c (marked ++ others) a e
 SkimsChildren-more y side own c d marked others a b e at h k = record {
   text = h.text ++ k.text;
-  consumed = Consumes-trans a b e h.text k.text h.consumed k.consumed;
+  consumed = Passes-trans a b e h.text k.text h.consumed k.consumed;
   children = joined h.children k.children;
   marks_are = joined-marks h.children k.children ∙ ap₂ (λ x z. x ++ z) h.marks_are k.marks_are;
   is = ap₂ (λ x z. x ++ z) h.is k.is ∙ sym (joined-text h.children k.children);
   shapes = joined-shapes h.children k.children y side own c d (omega (arith, at, marks_count h.children, ap length h.marks_are)) h.shapes k.shapes;
 }
 
-pub WalksChildren-none : (I : Problem) (step : ℕ) (bound cost : ℤ) (y : Placement) (now : Under) (side : Side) (own c : ℕ) (a : Option (List ℕ)) (before : List Leaf) → WalksChildren I step bound cost y now side own c [] a a before before
+pub WalksChildren-none : (I : Problem) (step : ℕ) (bound cost : ℤ) (y : Placement) (now : Under) (side : Side) (own c : ℕ) (a : Flow) (before : List Leaf) → WalksChildren I step bound cost y now side own c [] a a before before
 unfolding SkimsChildren-none
 WalksChildren-none I step bound cost y now side own c a before = record { skimmed = SkimsChildren-none y side own c a; leaves = []; listed = sym (append-nil before); valid = refl }
 
 -- likewise where all are valid
-pub WalksChildren-more : (I : Problem) (step : ℕ) (bound cost : ℤ) (y : Placement) (now : Under) (side : Side) (own c d : ℕ) (marked others : List ℕ) (a b e : Option (List ℕ)) (before mid after : List Leaf) → d ≡ c + length marked
+pub WalksChildren-more : (I : Problem) (step : ℕ) (bound cost : ℤ) (y : Placement) (now : Under) (side : Side) (own c d : ℕ) (marked others : List ℕ) (a b e : Flow) (before mid after : List Leaf) → d ≡ c + length marked
     → WalksChildren I step bound cost y now side own c marked a b before mid → WalksChildren I step bound cost y now side own d others b e mid after → WalksChildren I step bound cost y now side own c (marked ++ others) a e before after
 unfolding SkimsChildren-more
 WalksChildren-more I step bound cost y now side own c d marked others a b e before mid after at h k = record {
@@ -317,14 +317,14 @@ next_marks : (marked : List ℕ) (c mark : ℕ) → c < length marked → get_or
 next_marks marked c mark inside is = ap (λ z. take c marked ++ z ∷ []) (sym is) ∙ sym (take_more marked c 0 inside)
 
 -- the child behind the first ones
-pub SkimsChildren-next : (y : Placement) (side : Side) (own first last c mark : ℕ) (marked : List ℕ) (a b e : Option (List ℕ)) → last ≡ first + c → c < length marked → get_or marked c 0 ≡ mark → SkimsChildren y side own first (take c marked) a b → SkimsChildren y side own last (mark ∷ []) b e
+pub SkimsChildren-next : (y : Placement) (side : Side) (own first last c mark : ℕ) (marked : List ℕ) (a b e : Flow) → last ≡ first + c → c < length marked → get_or marked c 0 ≡ mark → SkimsChildren y side own first (take c marked) a b → SkimsChildren y side own last (mark ∷ []) b e
     → SkimsChildren y side own first (take (c + 1) marked) a e
 SkimsChildren-next y side own first last c mark marked a b e at inside is h k =
     subst (λ (l : List ℕ). SkimsChildren y side own first l a e) (next_marks marked c mark inside is)
     (SkimsChildren-more y side own first last (take c marked) (mark ∷ []) a b e (omega (arith, at, length-take-le c marked (omega (arith, inside)))) h k)
 
 -- likewise where all are valid
-pub WalksChildren-next : (I : Problem) (step : ℕ) (bound cost : ℤ) (y : Placement) (now : Under) (side : Side) (own c mark : ℕ) (marked : List ℕ) (a b e : Option (List ℕ)) (before mid after : List Leaf) → c < length marked → get_or marked c 0 ≡ mark
+pub WalksChildren-next : (I : Problem) (step : ℕ) (bound cost : ℤ) (y : Placement) (now : Under) (side : Side) (own c mark : ℕ) (marked : List ℕ) (a b e : Flow) (before mid after : List Leaf) → c < length marked → get_or marked c 0 ≡ mark
     → WalksChildren I step bound cost y now side own 0 (take c marked) a b before mid → WalksChildren I step bound cost y now side own c (mark ∷ []) b e mid after → WalksChildren I step bound cost y now side own 0 (take (c + 1) marked) a e before after
 WalksChildren-next I step bound cost y now side own c mark marked a b e before mid after inside is h k =
     subst (λ (l : List ℕ). WalksChildren I step bound cost y now side own 0 l a e before after) (next_marks marked c mark inside is)
@@ -335,7 +335,7 @@ pub all_marks : (marked : List ℕ) (c : ℕ) → length marked ≤ c → take c
 all_marks marked c all = take_all c marked all
 
 -- first ones, and the others from the next child on
-pub SkimsChildren-others : (y : Placement) (side : Side) (own c : ℕ) (marked : List ℕ) (a b e : Option (List ℕ)) → c ≤ length marked → SkimsChildren y side own 0 (take c marked) a b → SkimsChildren y side own c (drop c marked) b e → SkimsChildren y side own 0 marked a e
+pub SkimsChildren-others : (y : Placement) (side : Side) (own c : ℕ) (marked : List ℕ) (a b e : Flow) → c ≤ length marked → SkimsChildren y side own 0 (take c marked) a b → SkimsChildren y side own c (drop c marked) b e → SkimsChildren y side own 0 marked a e
 SkimsChildren-others y side own c marked a b e inside h k =
     subst (λ (l : List ℕ). SkimsChildren y side own 0 l a e) (take-append-drop c marked)
     (SkimsChildren-more y side own 0 c (take c marked) (drop c marked) a b e (omega (arith, length-take-le c marked inside)) h k)

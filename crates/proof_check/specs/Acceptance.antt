@@ -1,6 +1,6 @@
 -- What a text with pair duals establishes about an instance's costs, and that no valid one is refused.
 use Rattle.std.specs.Prelude.{◌≡◌, ◌⊎◌, ℕ, ◌<◌, ◌++◌, ◌∷◌, [], List, length, ℤ, pos, codes, ◌<ℤ◌, Option, None, Some, IfSome}
-use Rattle.std.specs.Io.KnownBytes.{Consumes}
+use Rattle.std.specs.Io.KnownBytes.{Appends}
 use Rattle.qap_cost.specs.Bijection.{IsPerm}
 use Rattle.qap_cost.specs.Instance.{Problem}
 use Rattle.qap_cost.specs.Placement.{Placement}
@@ -19,6 +19,7 @@ use Rattle.qap_proof.specs.declared.leaf.Leaf.{Leaf}
 use Rattle.proof_tree.specs.Claim.{PairClaim, PairProves, IsPairProofText, pair_claim}
 use Rattle.proof_tree.specs.Leaves.{HasLeaves}
 use Rattle.proof_tree.specs.Tree.{Tree}
+use Rattle.proof_check.specs.Flow.{Flow, Passes}
 
 -- the verdict of what a proof states: if its root is empty its cost, if that is its bound, else both; otherwise its bound
 abbrev pub IsPairVerdictOf : PairClaim → Verdict → Type 0
@@ -54,7 +55,17 @@ pub record ReadsLeaves (I : Problem) (old : Option (List ℕ)) (x : Placement) (
   pub whole : IfSome old (λ xs. xs ≡ text)
   pub shows : ShowsLeaves I text x c g limit ls
 
--- memory ran out, or the reader failed
+-- likewise, with this permutation, and the text was copied as it was read
+pub record CopiesLeaves (I : Problem) (old new : Flow) (x : Placement) (c g limit : ℤ) (p : List ℕ) (ls : List Leaf) : Type 0 where
+  pub text : List ℕ
+  pub whole : IfSome old.left (λ xs. xs ≡ text)
+  pub copied : Appends old.copied new.copied text
+  pub tree : Tree
+  pub is_text : IsPairProofText text (pair_claim x c g p tree)
+  pub proved : PairProves I (pair_claim x c g p tree)
+  pub leaves : HasLeaves I (step_of I) g limit x None tree ls
+
+-- memory ran out, or the reader or the writer failed
 abbrev pub IsInterruption : ProofError → Type 0
 IsInterruption e = (e ≡ OutOfMemory) ⊎ (e ≡ Device)
 
@@ -69,9 +80,9 @@ pair_head_text x c g p =
     ++ line_text (codes "perm") (from_one p) ++ root_text x.facilities x.places ++ bound_text c g
 
 -- they were read, and the line after them
-pub record ReadsHead (x : Placement) (c g : ℤ) (p line : List ℕ) (old new : Option (List ℕ)) : Type 0 where
+pub record ReadsHead (x : Placement) (c g : ℤ) (p line : List ℕ) (old new : Flow) : Type 0 where
   pub cost : IsLimited c
   pub bound : IsBoundFor c g
   pub permutation : IsPerm p
   pub root : IsRoot (length p) x
-  pub consumed : Consumes old new (pair_head_text x c g p ++ line ++ 10 ∷ [])
+  pub consumed : Passes old new (pair_head_text x c g p ++ line ++ 10 ∷ [])

@@ -1,7 +1,7 @@
 -- What a check may find where it is known how a text begins: a text with the right grammar has no fault of grammar, and one of a valid
 -- proof has none of content.
 use Rattle.std.specs.Prelude.{◌≡◌, ◌≢◌, ℕ, ◌+◌, ◌-◌, ◌*◌, ◌≤◌, ◌<◌, All, ◌++◌, ◌∷◌, [], List, length, slice_index, ℤ, codes, Bool, true, false, Option, None, Some, Result, MatchResult}
-use Rattle.std.specs.Io.KnownBytes.{Consumes, IsAtEnd}
+use Rattle.std.specs.Io.KnownBytes.{IsAtEnd}
 use Rattle.qap_cost.specs.Bijection.{IsPerm}
 use Rattle.qap_cost.specs.Instance.{Problem}
 use Rattle.qap_cost.specs.Placement.{Placement}
@@ -22,6 +22,7 @@ use Rattle.proof_tree.specs.Tree.{PairRows, Image, by_one, by_both, Tree, Childr
 use Rattle.proof_tree.specs.Valid.{Under, Valid, AllValid}
 use Rattle.proof_check.specs.Acceptance.{IsInterruption, pair_head_text}
 use Rattle.proof_check.specs.Fault.{IsReadFault, content, kind_of}
+use Rattle.proof_check.specs.Flow.{Flow, Passes}
 use Rattle.proof_check.specs.Lines.{AreMarks}
 use Rattle.proof_check.specs.Walk.{is_there, own_of}
 
@@ -133,8 +134,8 @@ pub record IsHeadOf (x : Placement) (c g : ℤ) (p : List ℕ) (root : Placement
   pub perm_is : perm ≡ p
 
 -- the last line was read, and nothing follows it
-abbrev pub EndsWith : Option (List ℕ) → Type 0
-EndsWith old = (last : Option (List ℕ)) × Consumes old last (codes "end\n") × IsAtEnd last
+abbrev pub EndsWith : Flow → Flow → Type 0
+EndsWith old new = (last : Flow) × Passes old last (codes "end\n") × IsAtEnd last.left × Passes last new []
 
 -- ---- trees
 

@@ -1,6 +1,7 @@
 pub mod Acceptance
 pub mod Completeness
 pub mod Fault
+pub mod Flow
 pub mod Image
 pub mod ImageLine
 pub mod Judge

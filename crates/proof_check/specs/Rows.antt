@@ -1,11 +1,11 @@
 -- Rows of pair duals that were read, and the lists that they yield.
-use Rattle.std.specs.Prelude.{◌≡◌, ℕ, ◌+◌, ◌-◌, ◌*◌, ◌/◌, ◌%◌, ◌<◌, ◌==◌, if◌then◌else◌, nat_lt, All, List, [], length, map, ℤ, pos, Option, slice_index_or}
-use Rattle.std.specs.Io.KnownBytes.{Consumes}
+use Rattle.std.specs.Prelude.{◌≡◌, ℕ, ◌+◌, ◌-◌, ◌*◌, ◌/◌, ◌%◌, ◌<◌, ◌==◌, if◌then◌else◌, nat_lt, All, List, [], length, map, ℤ, pos, slice_index_or}
 use Rattle.std.specs.Global.{Vec}
 use Rattle.pair_duals.specs.PairDuals.{cube, in_layers}
 use Rattle.proof_tree.specs.Shape.{AreLimited}
 use Rattle.proof_tree.specs.Text.{rows_text}
 use Rattle.proof_tree.specs.Tree.{PairRows}
+use Rattle.proof_check.specs.Flow.{Flow, Passes}
 
 -- the lists that vectors hold
 abbrev pub lists_of : List (Vec ℤ) → List (List ℤ)
@@ -16,16 +16,16 @@ abbrev pub rows_of : ℕ → List (List ℤ) → PairRows
 rows_of scale rows = record { scale = scale; rows = rows }
 
 -- m * m rows of 2 (m - 1) numbers, whose lines were read
-pub record ReadsRows (m : ℕ) (rows : List (List ℤ)) (old new : Option (List ℕ)) : Type 0 where
+pub record ReadsRows (m : ℕ) (rows : List (List ℤ)) (old new : Flow) : Type 0 where
   pub count : length rows ≡ m * m
   pub each : All (AreLimited (2 * (m - 1))) rows
-  pub consumed : Consumes old new (rows_text rows)
+  pub consumed : Passes old new (rows_text rows)
 
 -- this many rows of that many numbers, whose lines were read
-pub record HasRows (width count : ℕ) (rows : List (List ℤ)) (old new : Option (List ℕ)) : Type 0 where
+pub record HasRows (width count : ℕ) (rows : List (List ℤ)) (old new : Flow) : Type 0 where
   pub counted : length rows ≡ count
   pub each : All (AreLimited width) rows
-  pub consumed : Consumes old new (rows_text rows)
+  pub consumed : Passes old new (rows_text rows)
 
 -- the number for `other` in a row, which lists those for all but `own` from a position on; 0 for `own` itself
 abbrev pub number_of : List (List ℤ) → ℕ → ℕ → ℕ → ℕ → ℤ

@@ -7,7 +7,7 @@ ghost use Rattle.qap_lines.specs.Bound.{IsBoundFor};
 ghost use Rattle.pair_duals.specs.CostStep.{step_of};
 ghost use Rattle.proof_tree.specs.Claim.{pair_claim};
 ghost use Rattle.proof_tree.specs.Tree.{Tree};
-ghost use Rattle.proof_check.specs.Acceptance.{IsInterruption, IsPairVerdictOf, ReadsLeaves, ReadsVerdict, RefusesNoProof};
+ghost use Rattle.proof_check.specs.Acceptance.{CopiesLeaves, IsInterruption, IsPairVerdictOf, ReadsLeaves, ReadsVerdict, RefusesNoProof};
 ghost use Rattle.proof_check.specs.Completeness.{EndsWith};
 ghost use Rattle.proof_check.specs.Fault.{IsReadFault, RefusesPairs, content, kind_of};
 ghost use Rattle.proof_check.specs.Judge.{IsGreatestBelow};
@@ -16,11 +16,12 @@ use crate::cursor::{Cursor, advance, end};
 use crate::head::read_head;
 use crate::leaf::Judge;
 use crate::skimming::skim_root;
+use crate::tee::Tee;
 use crate::walking::{Walk, walk_root};
 use qap_cost::{Instance, Partial, Perm, cost};
 use qap_proof::{Leaf, ProofError, Verdict};
 use std::alloc::Global;
-use std::io::BufRead;
+use std::io::{BufRead, Write, sink};
 
 /// What a proof with pair duals states that was checked, and leaves of its tree, in preorder. No permutation that
 /// completes a leaf's node costs less than its value.
@@ -29,6 +30,8 @@ pub struct Checked {
     pub root: Partial,
     pub cost: i128,
     pub bound: i128,
+    /// The permutation that has this cost.
+    pub permutation: Perm,
     pub leaves: Vec<Leaf>,
 }
 
@@ -50,7 +53,8 @@ pub fn accept<R: BufRead>(
     ensures refused { IfErr result (RefusesNoProof instance.now (R.remaining reader.old)) }
     ensures fault { IfErr result (RefusesPairs instance.now (R.remaining reader.old)) }
 {
-    let checked = check(alloc, instance, step, reader, false)?;
+    let mut reader = Tee::new(reader, sink());
+    let checked = check(alloc, instance, step, &mut reader, false)?;
     Ok(verdict_of(&checked.root, checked.bound, checked.cost))
 }
 
@@ -66,7 +70,8 @@ pub fn accept_stated<R: BufRead>(
     ensures refused { IfErr result (RefusesNoProof instance.now (R.remaining reader.old)) }
     ensures fault { IfErr result (RefusesPairs instance.now (R.remaining reader.old)) }
 {
-    check(alloc, instance, step, reader, false)
+    let mut reader = Tee::new(reader, sink());
+    check(alloc, instance, step, &mut reader, false)
 }
 
 /// Likewise, with the leaves of the tree whose values are below the cost.
@@ -81,20 +86,36 @@ pub fn accept_leaves<R: BufRead>(
     ensures refused { IfErr result (RefusesNoProof instance.now (R.remaining reader.old)) }
     ensures fault { IfErr result (RefusesPairs instance.now (R.remaining reader.old)) }
 {
-    check(alloc, instance, step, reader, true)
+    let mut reader = Tee::new(reader, sink());
+    check(alloc, instance, step, &mut reader, true)
 }
 
-/// Checks a text; without leaves, those with values below the bound are listed, and there are none.
-fn check<R: BufRead>(
+/// Likewise, without leaves, of a text that is copied as it is read: what was appended to the writer then is the text.
+pub fn accept_copied<R: BufRead, W: Write>(
     alloc: Global,
     instance: &Instance,
     step: u64,
-    reader: &mut R,
+    reader: &mut Tee<R, W>,
+) -> Result<Checked, ProofError>
+    requires step { step ≡ step_of instance.now }
+    ensures copied { IfOk result (λ c. CopiesLeaves instance.now reader.old reader.new c.root c.cost c.bound c.bound c.permutation c.leaves.items) }
+    ensures refused { IfErr result (RefusesNoProof instance.now reader.old.left) }
+    ensures fault { IfErr result (RefusesPairs instance.now reader.old.left) }
+{
+    check(alloc, instance, step, reader, false)
+}
+
+/// Checks a text as it is copied; without leaves, those with values below the bound are listed, and there are none.
+fn check<R: BufRead, W: Write>(
+    alloc: Global,
+    instance: &Instance,
+    step: u64,
+    reader: &mut Tee<R, W>,
     with_leaves: bool,
 ) -> Result<Checked, ProofError>
     requires step { step ≡ step_of instance.now }
-    ensures leaves { IfOk result (λ c. ReadsLeaves instance.now (R.remaining reader.old) c.root c.cost c.bound (if with_leaves then c.cost else c.bound) c.leaves.items) }
-    ensures fault { IfErr result (RefusesPairs instance.now (R.remaining reader.old)) }
+    ensures leaves { IfOk result (λ c. CopiesLeaves instance.now reader.old reader.new c.root c.cost c.bound (if with_leaves then c.cost else c.bound) c.permutation c.leaves.items) }
+    ensures fault { IfErr result (RefusesPairs instance.now reader.old.left) }
 {
     let mut cursor = Cursor::new(alloc);
     let head = read_head(alloc, reader, &mut cursor)?;
@@ -125,6 +146,7 @@ fn check<R: BufRead>(
             root: head.root,
             cost: head.cost,
             bound: head.bound,
+            permutation: head.perm,
             leaves: walk.leaves,
         }),
     }
@@ -168,9 +190,12 @@ fn perm_fault(instance: &Instance, perm: &Perm, stated: i128) -> Option<ProofErr
 }
 
 /// Reads the last line, and makes sure that nothing follows it.
-fn read_end<R: BufRead>(reader: &mut R, cursor: &mut Cursor) -> Result<(), ProofError>
-    ensures read { OnOk result (EndsWith (R.remaining reader.old)) }
-    ensures refused { IfErr result (λ e. R.remaining reader.old ≡ Some (codes "end\n") → IsInterruption e) }
+fn read_end<R: BufRead, W: Write>(
+    reader: &mut Tee<R, W>,
+    cursor: &mut Cursor,
+) -> Result<(), ProofError>
+    ensures read { OnOk result (EndsWith reader.old reader.new) }
+    ensures refused { IfErr result (λ e. reader.old.left ≡ Some (codes "end\n") → IsInterruption e) }
     ensures class { IfErr result IsReadFault }
 {
     advance(reader, cursor)?;

@@ -1,7 +1,6 @@
 //! The lines before the tree.
 
 ghost use Rattle.std.specs.Prelude.{◌≡◌, ◌≢◌, ◌++◌, ◌∷◌, [], ◌<◌, ◌≤◌, ℕ, ℤ, List, length, pos, codes, IfErr, IfOk, IfSome, MatchOption, MatchResult, OnOk, slice_index, ⊤};
-ghost use Rattle.std.specs.Io.KnownBytes.{Consumes};
 ghost use Rattle.qap_cost.specs.Bijection.{IsPerm};
 ghost use Rattle.qap_cost.specs.Placement.{Placement};
 ghost use Rattle.qap_cost.specs.Range.{IsLimited};
@@ -17,14 +16,16 @@ ghost use Rattle.proof_tree.specs.Tree.{Tree};
 ghost use Rattle.proof_check.specs.Acceptance.{IsInterruption, ReadsHead};
 ghost use Rattle.proof_check.specs.Completeness.{HasBound, HasHead, HasRoot, IsCurrent, IsHeadOf, RefusesNamed};
 ghost use Rattle.proof_check.specs.Fault.{IsReadFault};
+ghost use Rattle.proof_check.specs.Flow.{Passes};
 ghost use Rattle.proof_check.specs.Walk.{ReadsBehind};
 
 use crate::cursor::{Cursor, advance};
+use crate::tee::Tee;
 use qap_cost::{MAX_SIZE, MAX_VALUE, Partial, Perm};
 use qap_lines::{one_number, permutation_from_one, read_numbers};
 use qap_proof::{ProofError, read_node_text};
 use std::alloc::Global;
-use std::io::BufRead;
+use std::io::{BufRead, Write};
 
 /// What the lines before the tree state.
 #[derive(Drop)]
@@ -36,16 +37,16 @@ pub(crate) struct Head {
 }
 
 /// Reads them, and the line after them.
-pub(crate) fn read_head<R: BufRead>(
+pub(crate) fn read_head<R: BufRead, W: Write>(
     alloc: Global,
-    reader: &mut R,
+    reader: &mut Tee<R, W>,
     cursor: &mut Cursor,
 ) -> Result<Head, ProofError>
-    ensures read { IfOk result (λ h. ReadsHead h.root h.cost h.bound h.perm cursor.new.line.items (R.remaining reader.old) (R.remaining reader.new)) }
+    ensures read { IfOk result (λ h. ReadsHead h.root h.cost h.bound h.perm cursor.new.line.items reader.old reader.new) }
     ensures passed { MatchResult result
-        (λ h. (x : Placement) (c g : ℤ) (p : List ℕ) (t : Tree) (rest : List ℕ) → HasHead x c g p t (R.remaining reader.old) rest
-        → IsHeadOf x c g p h.root h.cost h.bound h.perm × IsCurrent cursor.new.line.items (R.remaining reader.new) (tree_text t ++ rest))
-        (λ e. (x : Placement) (c g : ℤ) (p : List ℕ) (t : Tree) (rest : List ℕ) → HasHead x c g p t (R.remaining reader.old) rest → IsInterruption e) }
+        (λ h. (x : Placement) (c g : ℤ) (p : List ℕ) (t : Tree) (rest : List ℕ) → HasHead x c g p t reader.old.left rest
+        → IsHeadOf x c g p h.root h.cost h.bound h.perm × IsCurrent cursor.new.line.items reader.new.left (tree_text t ++ rest))
+        (λ e. (x : Placement) (c g : ℤ) (p : List ℕ) (t : Tree) (rest : List ℕ) → HasHead x c g p t reader.old.left rest → IsInterruption e) }
     ensures class { IfErr result IsReadFault }
 {
     read_header(reader, cursor)?;
@@ -64,9 +65,12 @@ pub(crate) fn read_head<R: BufRead>(
 }
 
 /// The first line, which states the version.
-fn read_header<R: BufRead>(reader: &mut R, cursor: &mut Cursor) -> Result<(), ProofError>
-    ensures refused { IfErr result (RefusesNamed (codes "qapproof") (pos 2 ∷ []) (R.remaining reader.old)) }
-    ensures read { OnOk result (Consumes (R.remaining reader.old) (R.remaining reader.new) (line_text (codes "qapproof") (pos 2 ∷ []))) }
+fn read_header<R: BufRead, W: Write>(
+    reader: &mut Tee<R, W>,
+    cursor: &mut Cursor,
+) -> Result<(), ProofError>
+    ensures refused { IfErr result (RefusesNamed (codes "qapproof") (pos 2 ∷ []) reader.old.left) }
+    ensures read { OnOk result (Passes reader.old reader.new (line_text (codes "qapproof") (pos 2 ∷ []))) }
     ensures class { IfErr result IsReadFault }
 {
     advance(reader, cursor)?;
@@ -86,9 +90,12 @@ fn judge_header(line: &[u8]) -> Result<(), ProofError>
 }
 
 /// The size, which the second line states.
-fn read_size<R: BufRead>(reader: &mut R, cursor: &mut Cursor) -> Result<usize, ProofError>
-    ensures refused { IfErr result (λ e. (n : ℕ) → 0 < n → n ≤ 256 → RefusesNamed (codes "n") (pos n ∷ []) (R.remaining reader.old) e) }
-    ensures read { IfOk result (λ n. (0 < n) × (n ≤ 256) × Consumes (R.remaining reader.old) (R.remaining reader.new) (line_text (codes "n") (pos n ∷ []))) }
+fn read_size<R: BufRead, W: Write>(
+    reader: &mut Tee<R, W>,
+    cursor: &mut Cursor,
+) -> Result<usize, ProofError>
+    ensures refused { IfErr result (λ e. (n : ℕ) → 0 < n → n ≤ 256 → RefusesNamed (codes "n") (pos n ∷ []) reader.old.left e) }
+    ensures read { IfOk result (λ n. (0 < n) × (n ≤ 256) × Passes reader.old reader.new (line_text (codes "n") (pos n ∷ []))) }
     ensures class { IfErr result IsReadFault }
 {
     advance(reader, cursor)?;
@@ -109,9 +116,12 @@ fn judge_size(line: &[u8], number: u64) -> Result<usize, ProofError>
 }
 
 /// The cost, which the third line states.
-fn read_cost<R: BufRead>(reader: &mut R, cursor: &mut Cursor) -> Result<i128, ProofError>
-    ensures refused { IfErr result (λ e. (c : ℤ) → IsLimited c → RefusesNamed (codes "cost") (c ∷ []) (R.remaining reader.old) e) }
-    ensures read { IfOk result (λ c. IsLimited c × Consumes (R.remaining reader.old) (R.remaining reader.new) (line_text (codes "cost") (c ∷ []))) }
+fn read_cost<R: BufRead, W: Write>(
+    reader: &mut Tee<R, W>,
+    cursor: &mut Cursor,
+) -> Result<i128, ProofError>
+    ensures refused { IfErr result (λ e. (c : ℤ) → IsLimited c → RefusesNamed (codes "cost") (c ∷ []) reader.old.left e) }
+    ensures read { IfOk result (λ c. IsLimited c × Passes reader.old reader.new (line_text (codes "cost") (c ∷ []))) }
     ensures class { IfErr result IsReadFault }
 {
     advance(reader, cursor)?;
@@ -132,15 +142,15 @@ fn judge_cost(line: &[u8], number: u64) -> Result<i128, ProofError>
 }
 
 /// The permutation of `n` locations, which the fourth line states.
-fn read_permutation<R: BufRead>(
+fn read_permutation<R: BufRead, W: Write>(
     alloc: Global,
-    reader: &mut R,
+    reader: &mut Tee<R, W>,
     cursor: &mut Cursor,
     n: usize,
 ) -> Result<Perm, ProofError>
     requires small { n ≤ 256 }
-    ensures refused { IfErr result (λ e. (p : List ℕ) → IsPerm p → length p ≡ n → RefusesNamed (codes "perm") (counted_from_one p) (R.remaining reader.old) e) }
-    ensures read { IfOk result (λ p. IsPerm p × (length p ≡ n) × Consumes (R.remaining reader.old) (R.remaining reader.new) (line_text (codes "perm") (counted_from_one p))) }
+    ensures refused { IfErr result (λ e. (p : List ℕ) → IsPerm p → length p ≡ n → RefusesNamed (codes "perm") (counted_from_one p) reader.old.left e) }
+    ensures read { IfOk result (λ p. IsPerm p × (length p ≡ n) × Passes reader.old reader.new (line_text (codes "perm") (counted_from_one p))) }
     ensures class { IfErr result IsReadFault }
 {
     advance(reader, cursor)?;
@@ -168,18 +178,18 @@ fn judge_permutation(alloc: Global, line: &[u8], n: usize, number: u64) -> Resul
 }
 
 /// The root, which the current line states, or which is empty; then the current line is the one after it.
-fn read_root<R: BufRead>(
+fn read_root<R: BufRead, W: Write>(
     alloc: Global,
-    reader: &mut R,
+    reader: &mut Tee<R, W>,
     cursor: &mut Cursor,
     n: usize,
 ) -> Result<Partial, ProofError>
     requires positive { 0 < n }
     requires small { n ≤ 256 }
     ensures passed { MatchResult result
-        (λ x. (y : Placement) (text : List ℕ) → HasRoot n y cursor.old.line.items (R.remaining reader.old) text → (x ≡ y) × IsCurrent cursor.new.line.items (R.remaining reader.new) text)
-        (λ e. (y : Placement) (text : List ℕ) → HasRoot n y cursor.old.line.items (R.remaining reader.old) text → IsInterruption e) }
-    ensures read { IfOk result (λ x. IsRoot n x × ReadsBehind cursor.old.line.items (root_text x.facilities x.places) cursor.new.line.items (R.remaining reader.old) (R.remaining reader.new)) }
+        (λ x. (y : Placement) (text : List ℕ) → HasRoot n y cursor.old.line.items reader.old.left text → (x ≡ y) × IsCurrent cursor.new.line.items reader.new.left text)
+        (λ e. (y : Placement) (text : List ℕ) → HasRoot n y cursor.old.line.items reader.old.left text → IsInterruption e) }
+    ensures read { IfOk result (λ x. IsRoot n x × ReadsBehind cursor.old.line.items (root_text x.facilities x.places) cursor.new.line.items reader.old reader.new) }
     ensures class { IfErr result IsReadFault }
 {
     match judge_root(alloc, &cursor.line, n, cursor.number)? {
@@ -219,16 +229,16 @@ fn judge_root(
 }
 
 /// The bound, which the current line states, or which is the cost; then the current line is the one after it.
-fn read_bound<R: BufRead>(
-    reader: &mut R,
+fn read_bound<R: BufRead, W: Write>(
+    reader: &mut Tee<R, W>,
     cursor: &mut Cursor,
     cost: i128,
 ) -> Result<i128, ProofError>
     requires cost { IsLimited cost }
     ensures passed { MatchResult result
-        (λ g. (h : ℤ) (text : List ℕ) → HasBound cost h cursor.old.line.items (R.remaining reader.old) text → (g ≡ h) × IsCurrent cursor.new.line.items (R.remaining reader.new) text)
-        (λ e. (h : ℤ) (text : List ℕ) → HasBound cost h cursor.old.line.items (R.remaining reader.old) text → IsInterruption e) }
-    ensures read { IfOk result (λ g. IsBoundFor cost g × ReadsBehind cursor.old.line.items (bound_text cost g) cursor.new.line.items (R.remaining reader.old) (R.remaining reader.new)) }
+        (λ g. (h : ℤ) (text : List ℕ) → HasBound cost h cursor.old.line.items reader.old.left text → (g ≡ h) × IsCurrent cursor.new.line.items reader.new.left text)
+        (λ e. (h : ℤ) (text : List ℕ) → HasBound cost h cursor.old.line.items reader.old.left text → IsInterruption e) }
+    ensures read { IfOk result (λ g. IsBoundFor cost g × ReadsBehind cursor.old.line.items (bound_text cost g) cursor.new.line.items reader.old reader.new) }
     ensures class { IfErr result IsReadFault }
 {
     match judge_bound(&cursor.line, cost, cursor.number)? {

@@ -14,7 +14,9 @@ mod numbers;
 mod rows;
 mod skimming;
 mod split;
+mod tee;
 mod walking;
 
-pub use acceptance::{Checked, accept, accept_leaves, accept_stated};
+pub use acceptance::{Checked, accept, accept_copied, accept_leaves, accept_stated};
 pub use law::verdict_law;
+pub use tee::Tee;

@@ -11,11 +11,12 @@ ghost use Rattle.proof_tree.specs.Shape.{AreLimited};
 
 use crate::cursor::{Cursor, advance};
 use crate::numbers::limited_numbers;
+use crate::tee::Tee;
 use pair_duals::MAX_SCALE;
 use qap_lines::one_number;
 use qap_proof::ProofError;
 use std::alloc::{AllocError, Global};
-use std::io::BufRead;
+use std::io::{BufRead, Write};
 
 /// The scale that a line states, from 1 to 2^20.
 pub(crate) fn scale_of(line: &[u8]) -> Option<u32>
@@ -30,17 +31,17 @@ pub(crate) fn scale_of(line: &[u8]) -> Option<u32>
 }
 
 /// Reads the rows of pair duals where `m` facilities are free: a line for each free facility at each free location.
-pub(crate) fn read_rows<R: BufRead>(
+pub(crate) fn read_rows<R: BufRead, W: Write>(
     alloc: Global,
-    reader: &mut R,
+    reader: &mut Tee<R, W>,
     cursor: &mut Cursor,
     m: usize,
 ) -> Result<Vec<Vec<i128>>, ProofError>
     requires { m ≤ 256 }
-    ensures read { IfOk result (λ rows. ReadsRows m (lists_of rows.items) (R.remaining reader.old) (R.remaining reader.new)) }
+    ensures read { IfOk result (λ rows. ReadsRows m (lists_of rows.items) reader.old reader.new) }
     ensures passed { MatchResult result
-        (λ rows. (wanted : List (List ℤ)) (rest : List ℕ) → BeginsWithRows m wanted (R.remaining reader.old) rest → (lists_of rows.items ≡ wanted) × (R.remaining reader.new ≡ Some rest))
-        (λ e. (wanted : List (List ℤ)) (rest : List ℕ) → BeginsWithRows m wanted (R.remaining reader.old) rest → IsInterruption e) }
+        (λ rows. (wanted : List (List ℤ)) (rest : List ℕ) → BeginsWithRows m wanted reader.old.left rest → (lists_of rows.items ≡ wanted) × (reader.new.left ≡ Some rest))
+        (λ e. (wanted : List (List ℤ)) (rest : List ℕ) → BeginsWithRows m wanted reader.old.left rest → IsInterruption e) }
     ensures class { IfErr result IsReadFault }
 {
     let width = 2 * m.saturating_sub(1);

@@ -16,21 +16,22 @@ use crate::image_line::read_image;
 use crate::node_line::{NodeLine, SplitLine, read_node_line};
 use crate::rows::{read_rows, scale_of};
 use crate::split::{SplitOf, begins_image, cell, child_node, open};
+use crate::tee::Tee;
 use qap_cost::Partial;
 use qap_proof::ProofError;
 use std::alloc::Global;
-use std::io::BufRead;
+use std::io::{BufRead, Write};
 
 /// Reads the tree of a root, whose first line is current.
-pub(crate) fn skim_root<R: BufRead>(
+pub(crate) fn skim_root<R: BufRead, W: Write>(
     alloc: Global,
-    reader: &mut R,
+    reader: &mut Tee<R, W>,
     node: &Partial,
     cursor: &mut Cursor,
 ) -> Result<(), ProofError>
     requires placement { IsPlacement node.now }
-    ensures passed { Leaves (BeginsTree node.now false Any cursor.old.line.items (R.remaining reader.old)) (R.remaining reader.new) result }
-    ensures skimmed { OnOk result (SkimsTree node.now false cursor.old.line.items (R.remaining reader.old) (R.remaining reader.new)) }
+    ensures passed { Leaves (BeginsTree node.now false Any cursor.old.line.items reader.old.left) reader.new.left result }
+    ensures skimmed { OnOk result (SkimsTree node.now false cursor.old.line.items reader.old reader.new) }
 {
     if cursor.line.starts_with(b"p") {
         skim_own(alloc, reader, node, cursor)
@@ -41,15 +42,15 @@ pub(crate) fn skim_root<R: BufRead>(
 
 /// Reads a tree below a node, whose first line is current.
 #[cycle(skimming)]
-fn skim_below<R: BufRead>(
+fn skim_below<R: BufRead, W: Write>(
     alloc: Global,
-    reader: &mut R,
+    reader: &mut Tee<R, W>,
     node: &Partial,
     cursor: &mut Cursor,
 ) -> Result<(), ProofError>
     requires placement { IsPlacement node.now }
-    ensures passed { Leaves (BeginsTree node.now true Any cursor.old.line.items (R.remaining reader.old)) (R.remaining reader.new) result }
-    ensures skimmed { OnOk result (SkimsTree node.now true cursor.old.line.items (R.remaining reader.old) (R.remaining reader.new)) }
+    ensures passed { Leaves (BeginsTree node.now true Any cursor.old.line.items reader.old.left) reader.new.left result }
+    ensures skimmed { OnOk result (SkimsTree node.now true cursor.old.line.items reader.old reader.new) }
 {
     if cursor.line.starts_with(b"p") {
         skim_own(alloc, reader, node, cursor)
@@ -60,15 +61,15 @@ fn skim_below<R: BufRead>(
 
 /// Reads a tree that begins with pair duals of its own.
 #[cycle(skimming)]
-fn skim_own<R: BufRead>(
+fn skim_own<R: BufRead, W: Write>(
     alloc: Global,
-    reader: &mut R,
+    reader: &mut Tee<R, W>,
     node: &Partial,
     cursor: &mut Cursor,
 ) -> Result<(), ProofError>
     requires placement { IsPlacement node.now }
-    ensures passed { Leaves (BeginsOwn node.now Any cursor.old.line.items (R.remaining reader.old)) (R.remaining reader.new) result }
-    ensures skimmed { (above : Bool) → OnOk result (SkimsTree node.now above cursor.old.line.items (R.remaining reader.old) (R.remaining reader.new)) }
+    ensures passed { Leaves (BeginsOwn node.now Any cursor.old.line.items reader.old.left) reader.new.left result }
+    ensures skimmed { (above : Bool) → OnOk result (SkimsTree node.now above cursor.old.line.items reader.old reader.new) }
 {
     let number = cursor.number;
     let Some(_scale) = scale_of(&cursor.line) else {
@@ -82,15 +83,15 @@ fn skim_own<R: BufRead>(
 
 /// Reads a tree from the line of its root on, which is current.
 #[cycle(skimming)]
-pub(crate) fn skim_lined<R: BufRead>(
+pub(crate) fn skim_lined<R: BufRead, W: Write>(
     alloc: Global,
-    reader: &mut R,
+    reader: &mut Tee<R, W>,
     node: &Partial,
     cursor: &mut Cursor,
 ) -> Result<(), ProofError>
     requires placement { IsPlacement node.now }
-    ensures passed { Leaves (BeginsLined node.now Any cursor.old.line.items (R.remaining reader.old)) (R.remaining reader.new) result }
-    ensures skimmed { OnOk result (SkimsLined node.now cursor.old.line.items (R.remaining reader.old) (R.remaining reader.new)) }
+    ensures passed { Leaves (BeginsLined node.now Any cursor.old.line.items reader.old.left) reader.new.left result }
+    ensures skimmed { OnOk result (SkimsLined node.now cursor.old.line.items reader.old reader.new) }
 {
     let number = cursor.number;
     let m = node.size() - node.depth();
@@ -103,9 +104,9 @@ pub(crate) fn skim_lined<R: BufRead>(
 
 /// Reads the children of a split, whose line is current.
 #[cycle(skimming)]
-fn skim_split<R: BufRead>(
+fn skim_split<R: BufRead, W: Write>(
     alloc: Global,
-    reader: &mut R,
+    reader: &mut Tee<R, W>,
     node: &Partial,
     split: &SplitLine,
     cursor: &mut Cursor,
@@ -113,8 +114,8 @@ fn skim_split<R: BufRead>(
     requires placement { IsPlacement node.now }
     requires count { length split.now.marks.items + length node.now.facilities ≡ node.now.size }
     requires marks { AreMarks split.now.marks.items }
-    ensures passed { Leaves (BeginsSplit node.now split.now.side split.now.number (λ _. Any) split.now.marks.items (R.remaining reader.old)) (R.remaining reader.new) result }
-    ensures skimmed { OnOk result (SkimsSplit node.now split.now.side split.now.number split.now.marks.items (R.remaining reader.old) (R.remaining reader.new)) }
+    ensures passed { Leaves (BeginsSplit node.now split.now.side split.now.number (λ _. Any) split.now.marks.items reader.old.left) reader.new.left result }
+    ensures skimmed { OnOk result (SkimsSplit node.now split.now.side split.now.number split.now.marks.items reader.old reader.new) }
 {
     let opened = open(node, split.side, split.number, cursor.number)?;
     let of = SplitOf {
@@ -129,9 +130,9 @@ fn skim_split<R: BufRead>(
 
 /// Reads the children of a split from this one on, which have these marks.
 #[cycle(skimming)]
-pub(crate) fn skim_children<R: BufRead>(
+pub(crate) fn skim_children<R: BufRead, W: Write>(
     alloc: Global,
-    reader: &mut R,
+    reader: &mut Tee<R, W>,
     split: &SplitOf<'_>,
     first: usize,
     marks: &[u8],
@@ -140,8 +141,8 @@ pub(crate) fn skim_children<R: BufRead>(
     requires split { IsSplitOf split.now.node.now split.now.facilities.now split.now.locations.now split.now.side split.now.own }
     requires count { first + length marks.now + length split.now.node.now.facilities ≡ split.now.node.now.size }
     requires marks { AreMarks marks.now }
-    ensures passed { Leaves (BeginsChildren split.now.node.now split.now.side split.now.own first Any marks.now (R.remaining reader.old)) (R.remaining reader.new) result }
-    ensures skimmed { OnOk result (SkimsChildren split.now.node.now split.now.side split.now.own first marks.now (R.remaining reader.old) (R.remaining reader.new)) }
+    ensures passed { Leaves (BeginsChildren split.now.node.now split.now.side split.now.own first Any marks.now reader.old.left) reader.new.left result }
+    ensures skimmed { OnOk result (SkimsChildren split.now.node.now split.now.side split.now.own first marks.now reader.old reader.new) }
 {
     for place in 0..marks.len() {
         skim_marked(alloc, reader, split, first + place, marks[place], cursor)?;
@@ -151,9 +152,9 @@ pub(crate) fn skim_children<R: BufRead>(
 
 /// Reads a child, which has this mark.
 #[cycle(skimming)]
-fn skim_marked<R: BufRead>(
+fn skim_marked<R: BufRead, W: Write>(
     alloc: Global,
-    reader: &mut R,
+    reader: &mut Tee<R, W>,
     split: &SplitOf<'_>,
     child: usize,
     mark: u8,
@@ -162,8 +163,8 @@ fn skim_marked<R: BufRead>(
     requires split { IsSplitOf split.now.node.now split.now.facilities.now split.now.locations.now split.now.side split.now.own }
     requires child { child + length split.now.node.now.facilities < split.now.node.now.size }
     requires mark { (mark ≡ 46) ⊎ (mark ≡ 43) }
-    ensures passed { LeavesOthers split.now.node.now split.now.side split.now.own child mark (R.remaining reader.old) (R.remaining reader.new) result }
-    ensures skimmed { OnOk result (SkimsChildren split.now.node.now split.now.side split.now.own child (mark ∷ []) (R.remaining reader.old) (R.remaining reader.new)) }
+    ensures passed { LeavesOthers split.now.node.now split.now.side split.now.own child mark reader.old.left reader.new.left result }
+    ensures skimmed { OnOk result (SkimsChildren split.now.node.now split.now.side split.now.own child (mark ∷ []) reader.old reader.new) }
 {
     if mark == b'+' {
         skim_child(alloc, reader, split, child, cursor)
@@ -174,17 +175,17 @@ fn skim_marked<R: BufRead>(
 
 /// Reads a child that has a text.
 #[cycle(skimming)]
-fn skim_child<R: BufRead>(
+fn skim_child<R: BufRead, W: Write>(
     alloc: Global,
-    reader: &mut R,
+    reader: &mut Tee<R, W>,
     split: &SplitOf<'_>,
     child: usize,
     cursor: &mut Cursor,
 ) -> Result<(), ProofError>
     requires split { IsSplitOf split.now.node.now split.now.facilities.now split.now.locations.now split.now.side split.now.own }
     requires child { child + length split.now.node.now.facilities < split.now.node.now.size }
-    ensures passed { LeavesOthers split.now.node.now split.now.side split.now.own child 43 (R.remaining reader.old) (R.remaining reader.new) result }
-    ensures skimmed { OnOk result (SkimsChildren split.now.node.now split.now.side split.now.own child (43 ∷ []) (R.remaining reader.old) (R.remaining reader.new)) }
+    ensures passed { LeavesOthers split.now.node.now split.now.side split.now.own child 43 reader.old.left reader.new.left result }
+    ensures skimmed { OnOk result (SkimsChildren split.now.node.now split.now.side split.now.own child (43 ∷ []) reader.old reader.new) }
 {
     advance(reader, cursor)?;
     if begins_image(&cursor.line) {

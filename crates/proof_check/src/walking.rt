@@ -25,11 +25,12 @@ use crate::node_line::{NodeLine, SplitLine, read_node_line};
 use crate::rows::{read_rows, scale_of};
 use crate::skimming::{skim_children, skim_lined};
 use crate::split::{SplitOf, begins_image, cell, child_node, open};
+use crate::tee::Tee;
 use pair_duals::{PairDuals, Reduced};
 use qap_cost::Partial;
 use qap_proof::{Leaf, ProofError};
 use std::alloc::{AllocError, Global};
-use std::io::BufRead;
+use std::io::{BufRead, Write};
 
 /// A split whose children are being checked, with the pair duals in force and the form after its line, and the value to
 /// be exceeded; and the number of its line.
@@ -50,8 +51,8 @@ pub(crate) struct Walk {
 }
 
 /// The first fault of content of the tree of a root, whose first line is current, if it has one.
-pub(crate) fn walk_root<R: BufRead>(
-    reader: &mut R,
+pub(crate) fn walk_root<R: BufRead, W: Write>(
+    reader: &mut Tee<R, W>,
     judge: &Judge<'_>,
     node: &Partial,
     walk: &mut Walk,
@@ -59,10 +60,10 @@ pub(crate) fn walk_root<R: BufRead>(
     requires size { judge.now.instance.now.size ≡ node.now.size }
     requires placement { IsPlacement node.now }
     requires judge { IsJudge judge.now.step judge.now.bound judge.now.below judge.now.cost judge.now.enough }
-    ensures passed { Leaves (BeginsTree node.now false Any walk.old.cursor.line.items (R.remaining reader.old)) (R.remaining reader.new) result }
+    ensures passed { Leaves (BeginsTree node.now false Any walk.old.cursor.line.items reader.old.left) reader.new.left result }
     ensures walked { IfOk result (λ fault. MatchOption fault
-        (WalksTree judge.now.instance.now judge.now.step judge.now.bound judge.now.cost node.now None walk.old.cursor.line.items (R.remaining reader.old) (R.remaining reader.new) walk.old.leaves.items walk.new.leaves.items)
-        (Finds (SkimsTree node.now false walk.old.cursor.line.items (R.remaining reader.old) (R.remaining reader.new)) (HasTree judge.now.instance.now judge.now.step judge.now.bound node.now None walk.old.cursor.line.items (R.remaining reader.old)))) }
+        (WalksTree judge.now.instance.now judge.now.step judge.now.bound judge.now.cost node.now None walk.old.cursor.line.items reader.old reader.new walk.old.leaves.items walk.new.leaves.items)
+        (Finds (SkimsTree node.now false walk.old.cursor.line.items reader.old reader.new) (HasTree judge.now.instance.now judge.now.step judge.now.bound node.now None walk.old.cursor.line.items reader.old.left))) }
 {
     if walk.cursor.line.starts_with(b"p") {
         walk_own(reader, judge, node, walk)
@@ -73,8 +74,8 @@ pub(crate) fn walk_root<R: BufRead>(
 
 /// Likewise for a tree below a node, whose first line is current.
 #[cycle(walking)]
-fn walk_below<R: BufRead>(
-    reader: &mut R,
+fn walk_below<R: BufRead, W: Write>(
+    reader: &mut Tee<R, W>,
     judge: &Judge<'_>,
     node: &Partial,
     duals: &PairDuals<i128>,
@@ -88,10 +89,10 @@ fn walk_below<R: BufRead>(
     requires in_scale { IsInScale wide judge.now.instance.now duals.now.scale }
     requires form { IsFormOf judge.now.instance.now duals.now node.now form.old }
     requires fresh { form.old.is_lined ≡ false }
-    ensures passed { Leaves (BeginsTree node.now true Any walk.old.cursor.line.items (R.remaining reader.old)) (R.remaining reader.new) result }
+    ensures passed { Leaves (BeginsTree node.now true Any walk.old.cursor.line.items reader.old.left) reader.new.left result }
     ensures walked { IfOk result (λ fault. MatchOption fault
-        (WalksTree judge.now.instance.now judge.now.step judge.now.bound judge.now.cost node.now (Some (under duals.now form.old)) walk.old.cursor.line.items (R.remaining reader.old) (R.remaining reader.new) walk.old.leaves.items walk.new.leaves.items)
-        (Finds (SkimsTree node.now true walk.old.cursor.line.items (R.remaining reader.old) (R.remaining reader.new)) (HasTree judge.now.instance.now judge.now.step judge.now.bound node.now (Some (under duals.now form.old)) walk.old.cursor.line.items (R.remaining reader.old)))) }
+        (WalksTree judge.now.instance.now judge.now.step judge.now.bound judge.now.cost node.now (Some (under duals.now form.old)) walk.old.cursor.line.items reader.old reader.new walk.old.leaves.items walk.new.leaves.items)
+        (Finds (SkimsTree node.now true walk.old.cursor.line.items reader.old reader.new) (HasTree judge.now.instance.now judge.now.step judge.now.bound node.now (Some (under duals.now form.old)) walk.old.cursor.line.items reader.old.left))) }
 {
     if walk.cursor.line.starts_with(b"p") {
         walk_own(reader, judge, node, walk)
@@ -102,8 +103,8 @@ fn walk_below<R: BufRead>(
 
 /// Likewise for a tree that begins with pair duals of its own.
 #[cycle(walking)]
-fn walk_own<R: BufRead>(
-    reader: &mut R,
+fn walk_own<R: BufRead, W: Write>(
+    reader: &mut Tee<R, W>,
     judge: &Judge<'_>,
     node: &Partial,
     walk: &mut Walk,
@@ -111,10 +112,10 @@ fn walk_own<R: BufRead>(
     requires size { judge.now.instance.now.size ≡ node.now.size }
     requires placement { IsPlacement node.now }
     requires judge { IsJudge judge.now.step judge.now.bound judge.now.below judge.now.cost judge.now.enough }
-    ensures passed { Leaves (BeginsOwn node.now Any walk.old.cursor.line.items (R.remaining reader.old)) (R.remaining reader.new) result }
+    ensures passed { Leaves (BeginsOwn node.now Any walk.old.cursor.line.items reader.old.left) reader.new.left result }
     ensures walked { (above : Option Under) → IfOk result (λ fault. MatchOption fault
-        (WalksTree judge.now.instance.now judge.now.step judge.now.bound judge.now.cost node.now above walk.old.cursor.line.items (R.remaining reader.old) (R.remaining reader.new) walk.old.leaves.items walk.new.leaves.items)
-        (Finds (SkimsTree node.now (is_there above) walk.old.cursor.line.items (R.remaining reader.old) (R.remaining reader.new)) (HasOwn judge.now.instance.now judge.now.step judge.now.bound node.now above walk.old.cursor.line.items (R.remaining reader.old)))) }
+        (WalksTree judge.now.instance.now judge.now.step judge.now.bound judge.now.cost node.now above walk.old.cursor.line.items reader.old reader.new walk.old.leaves.items walk.new.leaves.items)
+        (Finds (SkimsTree node.now (is_there above) walk.old.cursor.line.items reader.old reader.new) (HasOwn judge.now.instance.now judge.now.step judge.now.bound node.now above walk.old.cursor.line.items reader.old.left))) }
 {
     let number = walk.cursor.number;
     let Some(scale) = scale_of(&walk.cursor.line) else {
@@ -135,8 +136,8 @@ fn walk_own<R: BufRead>(
 /// Likewise for a tree from the line of its root on, which is current, by the pair duals in force at its root, and the
 /// form there.
 #[cycle(walking)]
-fn walk_lined<R: BufRead>(
-    reader: &mut R,
+fn walk_lined<R: BufRead, W: Write>(
+    reader: &mut Tee<R, W>,
     judge: &Judge<'_>,
     node: &Partial,
     duals: &PairDuals<i128>,
@@ -150,10 +151,10 @@ fn walk_lined<R: BufRead>(
     requires in_scale { IsInScale wide judge.now.instance.now duals.now.scale }
     requires form { IsFormOf judge.now.instance.now duals.now node.now form.old }
     requires fresh { form.old.is_lined ≡ false }
-    ensures passed { Leaves (BeginsLined node.now Any walk.old.cursor.line.items (R.remaining reader.old)) (R.remaining reader.new) result }
+    ensures passed { Leaves (BeginsLined node.now Any walk.old.cursor.line.items reader.old.left) reader.new.left result }
     ensures walked { IfOk result (λ fault. MatchOption fault
-        (WalksLined judge.now.instance.now judge.now.step judge.now.bound judge.now.cost node.now (under duals.now form.old) walk.old.cursor.line.items (R.remaining reader.old) (R.remaining reader.new) walk.old.leaves.items walk.new.leaves.items)
-        (Finds (SkimsLined node.now walk.old.cursor.line.items (R.remaining reader.old) (R.remaining reader.new)) (HasLined judge.now.instance.now judge.now.step judge.now.bound node.now (under duals.now form.old) walk.old.cursor.line.items (R.remaining reader.old)))) }
+        (WalksLined judge.now.instance.now judge.now.step judge.now.bound judge.now.cost node.now (under duals.now form.old) walk.old.cursor.line.items reader.old reader.new walk.old.leaves.items walk.new.leaves.items)
+        (Finds (SkimsLined node.now walk.old.cursor.line.items reader.old reader.new) (HasLined judge.now.instance.now judge.now.step judge.now.bound node.now (under duals.now form.old) walk.old.cursor.line.items reader.old.left))) }
 {
     let number = walk.cursor.number;
     let m = form.free();
@@ -177,8 +178,8 @@ fn walk_lined<R: BufRead>(
 
 /// Likewise for the children of a split, whose line is current and has been drawn.
 #[cycle(walking)]
-fn walk_split<'a, R: BufRead>(
-    reader: &mut R,
+fn walk_split<'a, R: BufRead, W: Write>(
+    reader: &mut Tee<R, W>,
     judge: &Judge<'_>,
     node: &'a Partial,
     duals: &'a PairDuals<i128>,
@@ -194,10 +195,10 @@ fn walk_split<'a, R: BufRead>(
     requires form { IsFormOf judge.now.instance.now duals.now node.now form.now }
     requires count { length split.now.marks.items + length node.now.facilities ≡ node.now.size }
     requires marks { AreMarks split.now.marks.items }
-    ensures passed { Leaves (BeginsSplit node.now split.now.side split.now.number (λ _. Any) split.now.marks.items (R.remaining reader.old)) (R.remaining reader.new) result }
+    ensures passed { Leaves (BeginsSplit node.now split.now.side split.now.number (λ _. Any) split.now.marks.items reader.old.left) reader.new.left result }
     ensures walked { IfOk result (λ fault. MatchOption fault
-        (WalksSplit judge.now.instance.now judge.now.step judge.now.bound judge.now.cost node.now (under duals.now form.now) split.now.side split.now.number split.now.marks.items (R.remaining reader.old) (R.remaining reader.new) walk.old.leaves.items walk.new.leaves.items)
-        (Finds (SkimsSplit node.now split.now.side split.now.number split.now.marks.items (R.remaining reader.old) (R.remaining reader.new)) (HasSplit judge.now.instance.now judge.now.step judge.now.bound node.now (under duals.now form.now) split.now.side split.now.number split.now.marks.items (R.remaining reader.old)))) }
+        (WalksSplit judge.now.instance.now judge.now.step judge.now.bound judge.now.cost node.now (under duals.now form.now) split.now.side split.now.number split.now.marks.items reader.old reader.new walk.old.leaves.items walk.new.leaves.items)
+        (Finds (SkimsSplit node.now split.now.side split.now.number split.now.marks.items reader.old reader.new) (HasSplit judge.now.instance.now judge.now.step judge.now.bound node.now (under duals.now form.now) split.now.side split.now.number split.now.marks.items reader.old.left))) }
 {
     let opened = open(node, split.side, split.number, walk.cursor.number)?;
     let parent = Parent {
@@ -218,8 +219,8 @@ fn walk_split<'a, R: BufRead>(
 
 /// Likewise for the children of a split, which have these marks.
 #[cycle(walking)]
-fn walk_children<R: BufRead>(
-    reader: &mut R,
+fn walk_children<R: BufRead, W: Write>(
+    reader: &mut Tee<R, W>,
     judge: &Judge<'_>,
     parent: &Parent<'_>,
     marks: &[u8],
@@ -229,10 +230,10 @@ fn walk_children<R: BufRead>(
     requires parent { IsParent judge.now.instance.now judge.now.below parent.now.split.node.now (under parent.now.duals.now parent.now.form.now) parent.now.split.facilities.now parent.now.split.locations.now parent.now.split.side parent.now.split.own parent.now.threshold }
     requires count { length marks.now + length parent.now.split.node.now.facilities ≡ parent.now.split.node.now.size }
     requires marks { AreMarks marks.now }
-    ensures passed { Leaves (BeginsChildren parent.now.split.node.now parent.now.split.side parent.now.split.own 0 Any marks.now (R.remaining reader.old)) (R.remaining reader.new) result }
+    ensures passed { Leaves (BeginsChildren parent.now.split.node.now parent.now.split.side parent.now.split.own 0 Any marks.now reader.old.left) reader.new.left result }
     ensures walked { IfOk result (λ fault. MatchOption fault
-        (WalksChildren judge.now.instance.now judge.now.step judge.now.bound judge.now.cost parent.now.split.node.now (under parent.now.duals.now parent.now.form.now) parent.now.split.side parent.now.split.own 0 marks.now (R.remaining reader.old) (R.remaining reader.new) walk.old.leaves.items walk.new.leaves.items)
-        (Finds (SkimsChildren parent.now.split.node.now parent.now.split.side parent.now.split.own 0 marks.now (R.remaining reader.old) (R.remaining reader.new)) (HasChildren judge.now.instance.now judge.now.step judge.now.bound parent.now.split.node.now (under parent.now.duals.now parent.now.form.now) parent.now.split.side parent.now.split.own 0 marks.now (R.remaining reader.old)))) }
+        (WalksChildren judge.now.instance.now judge.now.step judge.now.bound judge.now.cost parent.now.split.node.now (under parent.now.duals.now parent.now.form.now) parent.now.split.side parent.now.split.own 0 marks.now reader.old reader.new walk.old.leaves.items walk.new.leaves.items)
+        (Finds (SkimsChildren parent.now.split.node.now parent.now.split.side parent.now.split.own 0 marks.now reader.old reader.new) (HasChildren judge.now.instance.now judge.now.step judge.now.bound parent.now.split.node.now (under parent.now.duals.now parent.now.form.now) parent.now.split.side parent.now.split.own 0 marks.now reader.old.left))) }
 {
     let mut below = Reduced::empty(judge.alloc);
     for child in 0..marks.len() {
@@ -255,8 +256,8 @@ fn walk_children<R: BufRead>(
 
 /// Likewise for a child, which has this mark.
 #[cycle(walking)]
-fn walk_marked<R: BufRead>(
-    reader: &mut R,
+fn walk_marked<R: BufRead, W: Write>(
+    reader: &mut Tee<R, W>,
     judge: &Judge<'_>,
     parent: &Parent<'_>,
     child: usize,
@@ -268,11 +269,11 @@ fn walk_marked<R: BufRead>(
     requires parent { IsParent judge.now.instance.now judge.now.below parent.now.split.node.now (under parent.now.duals.now parent.now.form.now) parent.now.split.facilities.now parent.now.split.locations.now parent.now.split.side parent.now.split.own parent.now.threshold }
     requires child { child + length parent.now.split.node.now.facilities < parent.now.split.node.now.size }
     requires mark { (mark ≡ 46) ⊎ (mark ≡ 43) }
-    ensures passed { LeavesOthers parent.now.split.node.now parent.now.split.side parent.now.split.own child mark (R.remaining reader.old) (R.remaining reader.new) result }
+    ensures passed { LeavesOthers parent.now.split.node.now parent.now.split.side parent.now.split.own child mark reader.old.left reader.new.left result }
     ensures walked { IfOk result (λ fault. MatchOption fault
-        (WalksChildren judge.now.instance.now judge.now.step judge.now.bound judge.now.cost parent.now.split.node.now (under parent.now.duals.now parent.now.form.now) parent.now.split.side parent.now.split.own child (mark ∷ []) (R.remaining reader.old) (R.remaining reader.new) walk.old.leaves.items walk.new.leaves.items
-        × PassesOthers judge.now.instance.now judge.now.step judge.now.bound parent.now.split.node.now (under parent.now.duals.now parent.now.form.now) parent.now.split.side parent.now.split.own child mark (R.remaining reader.old) (R.remaining reader.new))
-        (Finds (SkimsChildren parent.now.split.node.now parent.now.split.side parent.now.split.own child (mark ∷ []) (R.remaining reader.old) (R.remaining reader.new)) (HasOthers judge.now.instance.now judge.now.step judge.now.bound parent.now.split.node.now (under parent.now.duals.now parent.now.form.now) parent.now.split.side parent.now.split.own child mark (R.remaining reader.old)))) }
+        (WalksChildren judge.now.instance.now judge.now.step judge.now.bound judge.now.cost parent.now.split.node.now (under parent.now.duals.now parent.now.form.now) parent.now.split.side parent.now.split.own child (mark ∷ []) reader.old reader.new walk.old.leaves.items walk.new.leaves.items
+        × PassesOthers judge.now.instance.now judge.now.step judge.now.bound parent.now.split.node.now (under parent.now.duals.now parent.now.form.now) parent.now.split.side parent.now.split.own child mark reader.old.left reader.new.left)
+        (Finds (SkimsChildren parent.now.split.node.now parent.now.split.side parent.now.split.own child (mark ∷ []) reader.old reader.new) (HasOthers judge.now.instance.now judge.now.step judge.now.bound parent.now.split.node.now (under parent.now.duals.now parent.now.form.now) parent.now.split.side parent.now.split.own child mark reader.old.left))) }
 {
     if mark == b'+' {
         return walk_child(reader, judge, parent, child, below, walk);
@@ -287,8 +288,8 @@ fn walk_marked<R: BufRead>(
 
 /// Likewise for a child that has a text.
 #[cycle(walking)]
-fn walk_child<R: BufRead>(
-    reader: &mut R,
+fn walk_child<R: BufRead, W: Write>(
+    reader: &mut Tee<R, W>,
     judge: &Judge<'_>,
     parent: &Parent<'_>,
     child: usize,
@@ -298,11 +299,11 @@ fn walk_child<R: BufRead>(
     requires judge { IsJudge judge.now.step judge.now.bound judge.now.below judge.now.cost judge.now.enough }
     requires parent { IsParent judge.now.instance.now judge.now.below parent.now.split.node.now (under parent.now.duals.now parent.now.form.now) parent.now.split.facilities.now parent.now.split.locations.now parent.now.split.side parent.now.split.own parent.now.threshold }
     requires child { child + length parent.now.split.node.now.facilities < parent.now.split.node.now.size }
-    ensures passed { LeavesOthers parent.now.split.node.now parent.now.split.side parent.now.split.own child 43 (R.remaining reader.old) (R.remaining reader.new) result }
+    ensures passed { LeavesOthers parent.now.split.node.now parent.now.split.side parent.now.split.own child 43 reader.old.left reader.new.left result }
     ensures walked { IfOk result (λ fault. MatchOption fault
-        (WalksChildren judge.now.instance.now judge.now.step judge.now.bound judge.now.cost parent.now.split.node.now (under parent.now.duals.now parent.now.form.now) parent.now.split.side parent.now.split.own child (43 ∷ []) (R.remaining reader.old) (R.remaining reader.new) walk.old.leaves.items walk.new.leaves.items
-        × PassesOthers judge.now.instance.now judge.now.step judge.now.bound parent.now.split.node.now (under parent.now.duals.now parent.now.form.now) parent.now.split.side parent.now.split.own child 43 (R.remaining reader.old) (R.remaining reader.new))
-        (Finds (SkimsChildren parent.now.split.node.now parent.now.split.side parent.now.split.own child (43 ∷ []) (R.remaining reader.old) (R.remaining reader.new)) (HasOthers judge.now.instance.now judge.now.step judge.now.bound parent.now.split.node.now (under parent.now.duals.now parent.now.form.now) parent.now.split.side parent.now.split.own child 43 (R.remaining reader.old)))) }
+        (WalksChildren judge.now.instance.now judge.now.step judge.now.bound judge.now.cost parent.now.split.node.now (under parent.now.duals.now parent.now.form.now) parent.now.split.side parent.now.split.own child (43 ∷ []) reader.old reader.new walk.old.leaves.items walk.new.leaves.items
+        × PassesOthers judge.now.instance.now judge.now.step judge.now.bound parent.now.split.node.now (under parent.now.duals.now parent.now.form.now) parent.now.split.side parent.now.split.own child 43 reader.old.left reader.new.left)
+        (Finds (SkimsChildren parent.now.split.node.now parent.now.split.side parent.now.split.own child (43 ∷ []) reader.old reader.new) (HasOthers judge.now.instance.now judge.now.step judge.now.bound parent.now.split.node.now (under parent.now.duals.now parent.now.form.now) parent.now.split.side parent.now.split.own child 43 reader.old.left))) }
 {
     advance(reader, &mut walk.cursor)?;
     if begins_image(&walk.cursor.line) {

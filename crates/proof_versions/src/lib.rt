@@ -10,5 +10,5 @@ mod pairs;
 pub use acceptance::accept;
 pub use adding::{add_part, add_part_stream};
 pub use opening::{open_cover, open_cover_stream};
-pub use over_root::accept_over;
-pub use pairs::{VERSION_LENGTH, accept_stream, states_version_two};
+pub use over_root::{accept_over, is_same_node};
+pub use pairs::{VERSION_LENGTH, accept_stream, copy_stream, states_version_two};

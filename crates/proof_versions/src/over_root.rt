@@ -28,7 +28,7 @@ pub fn accept_over(
         return qap_proof::accept_over(alloc, instance, root, text);
     }
     let stated = pair_stated(alloc, instance, text)?;
-    if !is_same(&stated.root, root) {
+    if !is_same_node(&stated.root, root) {
         return Ok(None);
     }
     Ok(Some(Stated {
@@ -38,7 +38,7 @@ pub fn accept_over(
 }
 
 /// Whether two nodes are the same, listed in the same order.
-fn is_same(first: &Partial, second: &Partial) -> bool
+pub fn is_same_node(first: &Partial, second: &Partial) -> bool
     ensures { IsTrue result ↔ (first.now ≡ second.now) }
 {
     first.size() == second.size()

@@ -2,18 +2,18 @@
 
 ghost use Rattle.std.specs.Prelude.{◌≡◌, ◌⊎◌, ◌↔◌, IsTrue, IfErr, IfOk, MatchResult};
 ghost use Rattle.pair_duals.specs.CostStep.{step_of};
-ghost use Rattle.proof_check.specs.Acceptance.{ShowsPairVerdict};
+ghost use Rattle.proof_check.specs.Acceptance.{CopiesLeaves, ShowsPairVerdict};
 ghost use Rattle.qap_proof.specs.Acceptance.{IsLimitedVerdict};
 ghost use Rattle.proof_versions.specs.OverRoot.{PairProvesFor};
 ghost use Rattle.proof_versions.specs.Versions.{RefusesNoPairs, StatesVersionTwo};
 ghost use Rattle.proof_versions.specs.Streams.{StreamProves, StreamRefuses, StreamShows};
 
 use pair_duals::cost_step;
-use proof_check::{Checked, accept, accept_stated};
+use proof_check::{Checked, Tee, accept, accept_copied, accept_stated};
 use qap_cost::Instance;
 use qap_proof::{ProofError, Verdict};
 use std::alloc::Global;
-use std::io::BufRead;
+use std::io::{BufRead, Write};
 
 /// The line that states version 2.
 const VERSION_TWO: &[u8] = b"qapproof 2\n";
@@ -55,6 +55,18 @@ pub(crate) fn stream_stated<R: BufRead>(
     ensures refused { IfErr result (StreamRefuses instance.now (R.remaining reader.old)) }
 {
     accept_stated(alloc, instance, step(instance), reader)
+}
+
+/// Likewise, of a text that is copied as it is read: what was appended to the writer then is the text.
+pub fn copy_stream<R: BufRead, W: Write>(
+    alloc: Global,
+    instance: &Instance,
+    reader: &mut Tee<R, W>,
+) -> Result<Checked, ProofError>
+    ensures copied { IfOk result (λ c. CopiesLeaves instance.now reader.old reader.new c.root c.cost c.bound c.bound c.permutation c.leaves.items) }
+    ensures refused { IfErr result (StreamRefuses instance.now reader.old.left) }
+{
+    accept_copied(alloc, instance, step(instance), reader)
 }
 
 /// What a text of version 2 states, where it is that of a proof which proves its bound for the instance.

@@ -1,3 +1,5 @@
 mod Endings
+mod Printing
+mod Proofs
 mod SplitUps
 mod Starts

@@ -3,13 +3,14 @@ use Rattle.std.proofs.Common.{Err, List, ℕ, Ok, Option, Result, ℤ, ◌≡◌
 use Rattle.std.proofs.lemmas.Int.{ints}
 use Rattle.std.specs.Prelude.{All, IfOk}
 use Rattle.qap_cost.specs.Instance.{Problem}
-use Rattle.qap_cost.specs.Objective.{IsLeast, cost_of}
+use Rattle.qap_cost.specs.Objective.{IsLeast, Permutes, cost_of}
 use Rattle.qap_cost.specs.Placement.{Completes, Placement, root_of}
 use Rattle.qap_cost.proofs.Nodes.{root_completed}
 use Rattle.qap_proof.specs.Claim.{NoneCompletesForLess}
 use Rattle.qap_proof.specs.Missing.{IsMissingBounded}
 use Rattle.plan_search.proofs.Kept.{no_dearer_kept}
 use Rattle.plan_search.specs.Keeping.{IsNoDearerKept}
+use Rattle.qap_plan.specs.Estimates.{AreOfSize}
 use Rattle.qap_plan.specs.Parts.{IsSplitUp}
 use Rattle.qap_plan.specs.Splitting.{IsSkeleton}
 use Rattle.plan_files.specs.declared.error.PlannerError.{PlannerError}
@@ -36,3 +37,11 @@ pub IsSplitUp-begun : (I : Problem) (x : Placement) (start : Option (List ℕ)) 
     → IfOk r (λ s. s.proof.cost ≤ℤ c) → IfOk r (IsSplitUp I x start)
 IsSplitUp-begun I x start p c (Ok s) first less h no_dearer = IsSplitUp-skeleton I x start p s first (omega (arith, ints, less, no_dearer)) h
 IsSplitUp-begun I x start p c (Err e) first less h no_dearer = tt
+
+-- the permutation of a skeleton
+pub Permutes-split : (I : Problem) (x : Placement) (start : Option (List ℕ)) (s : Skeleton) → IsSplitUp I x start s → Permutes I s.proof.permutation
+Permutes-split I x start s h = record { bijection = h.proves.shape.permutation.bijection; same_size = h.proves.proves.same_size }
+
+-- the nodes of its parts
+pub AreOfSize-split : (I : Problem) (x : Placement) (start : Option (List ℕ)) (s : Skeleton) → IsSplitUp I x start s → AreOfSize I.size s.parts.items
+AreOfSize-split I x start s h = λ k d below. sym (h.missing.lists.each k d below).root.size

@@ -12,23 +12,23 @@ use Rattle.plan_files.specs.declared.error.PlannerError.{PlannerError}
 use Rattle.plan_files.specs.declared.error.PlannerError.TheVariants.{Device}
 use Rattle.plan_search.specs.declared.planning.Planned.{Planned}
 
--- the input has an instance to be searched, and a start if one is requested, and this is what the search has found
-pub record ComesTo {R Q : Type 0} (i : Input R) (s : Starting Q) (passes : Bool) (x : Planned) : Type 0 where
-  pub problem : Problem
+-- the input has this instance to be searched, and a start if one is requested, and this is what the search has found
+pub record ComesTo {R Q : Type 0} (i : Input R) (s : Starting Q) (passes : Bool) (problem : Problem) (x : Planned) : Type 0 where
   pub input : HasOneInstance i passes problem
   pub start : Option (List ℕ)
   pub begins : HasStart s problem start
   pub planned : IsPlanned problem start x.permutation x.cost x.bound
 
 -- the text of the answer has been written
-pub record HasAnswered {R Q W : Type 0} (i : Input R) (s : Starting Q) (passes : Bool) (contents : W → Option (List ℕ)) (old new : CountedDevice W) (x : Planned) : Type 0 where
-  pub comes : ComesTo i s passes x
+pub record HasAnswered {R Q W : Type 0} (i : Input R) (s : Starting Q) (passes : Bool) (contents : W → Option (List ℕ)) (old new : CountedDevice W) (problem : Problem) (x : Planned) : Type 0 where
+  pub comes : ComesTo i s passes problem x
   pub sent : Sends contents old new (answer_text x.permutation x.cost x.bound)
 
 -- the writer failed after a prefix of it
 pub record HasBrokenOff {R Q W : Type 0} (i : Input R) (s : Starting Q) (passes : Bool) (contents : W → Option (List ℕ)) (old new : CountedDevice W) : Type 0 where
+  pub problem : Problem
   pub answer : Planned
-  pub comes : ComesTo i s passes answer
+  pub comes : ComesTo i s passes problem answer
   pub broken : BreaksOff contents old new (answer_text answer.permutation answer.cost answer.bound)
 
 -- there is an instance, but not the requested start

@@ -5,10 +5,9 @@ use Rattle.plan_answer.specs.Layout.{layout_text}
 use Rattle.plan_check.specs.Answer.{StatesPlanned}
 use Rattle.plan_file.specs.declared.tables.NamedProblem.{NamedProblem}
 use Rattle.plan_picture.specs.Picture.{IsPicture}
-use Rattle.qap_plan.specs.Outcome.{IsTextOfProof}
 use Rattle.qap_plan.specs.declared.commands.charged_answer.ChargedAnswer.{ChargedAnswer}
 use Rattle.qap_plan.specs.declared.output.outcome.Kind.{Kind}
-use Rattle.qap_plan.specs.declared.output.outcome.Kind.TheVariants.{Answer, Json, Table, Picture, Report, Proof}
+use Rattle.qap_plan.specs.declared.output.outcome.Kind.TheVariants.{Answer, Json, Table, Picture, Report}
 
 -- a picture that says what is proved about the cost
 pub record PicturesCharged (P : NamedProblem) (p : List ℕ) (c g : ℤ) (text : List ℕ) : Type 0 where
@@ -25,4 +24,3 @@ TellsCharged P a Json text = StatesPlanned P text a.planned.permutation a.planne
 TellsCharged P a Table text = text ≡ layout_text P a.planned.permutation
 TellsCharged P a Picture text = PicturesCharged P a.planned.permutation a.planned.cost a.planned.bound text
 TellsCharged P a Report text = text ≡ []
-TellsCharged P a Proof text = IsTextOfProof a.planned.proof a.planned.pair_proof text

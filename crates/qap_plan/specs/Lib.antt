@@ -5,15 +5,16 @@ pub mod Answers
 pub mod Asking
 pub mod ChargedAnswer
 pub mod ChargedOutcome
-pub mod Charging
 pub mod Checking
 pub mod Comparing
 pub mod Converting
+pub mod Estimates
 pub mod NodeLines
 pub mod Outcome
 pub mod PartFiles
 pub mod Parts
 pub mod Picturing
+pub mod Proofs
 pub mod Showing
 pub mod Solving
 pub mod Splitting

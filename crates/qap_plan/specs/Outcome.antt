@@ -1,10 +1,7 @@
 -- What the outputs of a run tell.
-use Rattle.std.specs.Prelude.{◌≡◌, ℕ, ℤ, List, [], Option, Some, None, int_lt, if◌then◌else◌}
+use Rattle.std.specs.Prelude.{◌≡◌, ℕ, ℤ, List, [], int_lt, if◌then◌else◌}
 use Rattle.qap_io.specs.declared.status.Status.{Status}
 use Rattle.qap_io.specs.declared.status.Status.TheVariants.{Done, Stopped}
-use Rattle.qap_proof.specs.Claim.{Claim}
-use Rattle.qap_proof.specs.Text.{IsProofText}
-use Rattle.proof_search.specs.Held.{Held, text_of}
 use Rattle.plan_answer.specs.Answer.{IsAnswerText}
 use Rattle.plan_answer.specs.Layout.{layout_text}
 use Rattle.plan_check.specs.Answer.{StatesFound, StatesPlanned}
@@ -14,18 +11,12 @@ use Rattle.plan_report.specs.declared.page.Report.{Report}
 use Rattle.qap_plan.specs.Answer.{answer_text}
 use Rattle.qap_plan.specs.Picturing.{ShowsVerdict}
 use Rattle.qap_plan.specs.declared.output.outcome.Kind.{Kind}
-use Rattle.qap_plan.specs.declared.output.outcome.Kind.TheVariants.{Answer, Json, Table, Picture, Report as InReport, Proof}
+use Rattle.qap_plan.specs.declared.output.outcome.Kind.TheVariants.{Answer, Json, Table, Picture, Report as InReport}
 use Rattle.plan_search.specs.declared.planning.Planned.{Planned}
 
 -- how a run ends that has found an arrangement with this cost and this bound: early if the bound is smaller
 abbrev pub status_of : ℤ → ℤ → Status
 status_of c g = if int_lt g c then Stopped else Done
-
--- the text of the proof, if there is one
-abbrev pub IsTextOfProof : Option Claim → Option Held → List ℕ → Type 0
-IsTextOfProof (Some C) h text = IsProofText text C
-IsTextOfProof None (Some h) text = text ≡ text_of h
-IsTextOfProof None None text = text ≡ []
 
 -- an output of an answer to a plan tells its permutation, its cost and its bound
 abbrev pub TellsPlan : NamedProblem → Planned → Kind → List ℕ → Type 0
@@ -34,11 +25,9 @@ TellsPlan P x Json text = StatesPlanned P text x.permutation x.cost x.bound
 TellsPlan P x Table text = text ≡ layout_text P x.permutation
 TellsPlan P x Picture text = (title : List ℕ) × ShowsVerdict P x.permutation x.cost x.bound title text
 TellsPlan P x InReport text = (report : Report) × IsPage P x.permutation x.cost x.bound report text
-TellsPlan P x Proof text = IsTextOfProof x.proof x.pair_proof text
 
 -- likewise of an answer to an instance, which has neither table nor picture nor report
 abbrev pub TellsFound : Planned → Kind → List ℕ → Type 0
 TellsFound x Answer text = text ≡ answer_text x.permutation x.cost x.bound
 TellsFound x Json text = StatesFound text x.permutation x.cost x.bound
-TellsFound x Proof text = IsTextOfProof x.proof x.pair_proof text
 TellsFound x other text = text ≡ []

@@ -1,11 +1,12 @@
 -- A search that is split into parts, in files of a folder.
-use Rattle.std.specs.Prelude.{◌≡◌, ◌++◌, ◌==◌, ⊤, ℕ, ℤ, List, None, Option, Some, codes, if◌then◌else◌, length, nat_lt, option_copied, string_bytes}
+use Rattle.std.specs.Prelude.{◌≡◌, ◌++◌, ◌==◌, ⊤, ℕ, ℤ, Bool, List, None, Option, Some, codes, if◌then◌else◌, length, nat_lt, option_copied, string_bytes}
 use Rattle.std.specs.Fmt.{decimal, signed_decimal}
 use Rattle.qap_cost.specs.Instance.{Problem}
 use Rattle.qap_io.specs.declared.status.Status.{Status}
 use Rattle.qap_io.specs.declared.status.Status.TheVariants.{Done, Stopped}
 use Rattle.qap_proof.specs.Text.{IsProofText}
 use Rattle.qap_text.specs.WrittenSolution.{solution_text}
+use Rattle.qap_plan.specs.Estimates.{PrintsEstimates}
 use Rattle.qap_plan.specs.NodeLines.{node_lines}
 use Rattle.qap_plan.specs.Parts.{IsSplitUp}
 use Rattle.plan_files.specs.Searched.{IsSearchedIn}
@@ -56,6 +57,12 @@ pub record TellsSplit {S : Type 0} (Writes : S → List ℕ → List ℕ → S �
   pub writes : WritesParts Writes f texts old written
   pub prints : Prints written (string_bytes texts.line) new
 
+-- and then, if they are requested, by estimates of the parts
+pub record TellsParts {S : Type 0} (Writes : S → List ℕ → List ℕ → S → Type 0) (Prints : S → List ℕ → S → Type 0) (estimates : Bool) (f : PartFiles) (s : Skeleton) (old new : S) : Type 0 where
+  pub told : S
+  pub tells : TellsSplit Writes Prints f s old told
+  pub adds : PrintsEstimates Prints estimates (length s.parts.items) told new
+
 -- if a file is named, the start is the solution in it
 abbrev pub BeginsIn : (List ℕ → List ℕ → Type 0) → Option (List ℕ) → Problem → Option (List ℕ) → Type 0
 BeginsIn Holds None I start = ⊤
@@ -70,7 +77,7 @@ split_status left wanted = if left == 0 then Done else (if nat_lt left wanted th
 pub record SplitsSearched {S : Type 0} (Writes : S → List ℕ → List ℕ → S → Type 0) (Prints : S → List ℕ → S → Type 0) (r : SplitRequest) (f : PartFiles) (s : Searched) (start : Option (List ℕ)) (status : Status) (old new : S) : Type 0 where
   pub skeleton : Skeleton
   pub split : IsSplitUp s.instance s.root start skeleton
-  pub tells : TellsSplit Writes Prints f skeleton old new
+  pub tells : TellsParts Writes Prints r.estimate f skeleton old new
   pub ends : status ≡ split_status (length skeleton.parts.items) r.parts
 
 -- from a sink to a sink by the parts of what is read from a file, in the files of a folder

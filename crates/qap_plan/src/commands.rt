@@ -11,6 +11,7 @@ pub(crate) mod convert;
 pub(crate) mod converting;
 pub(crate) mod duration;
 pub(crate) mod ending;
+pub(crate) mod estimates;
 pub(crate) mod part;
 pub(crate) mod show;
 pub(crate) mod solve;

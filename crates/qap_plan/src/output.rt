@@ -1,6 +1,7 @@
 //! What a run writes and reports.
 
 pub(crate) mod answer;
+pub(crate) mod estimate_lines;
 pub(crate) mod found_outcome;
 pub(crate) mod json;
 pub(crate) mod node_lines;

@@ -2,3 +2,4 @@
 
 pub(crate) mod charging;
 pub(crate) mod splitting;
+pub(crate) mod spooling;

@@ -1,5 +1,5 @@
 -- When a value reaches every bound up to the incumbent's cost, and what follows for the completions of a node.
-use Rattle.std.proofs.Common.{◌≡◌, ℕ, ◌<◌, List, length, get_or, ◌∙◌, ap, subst, inl, arith}
+use Rattle.std.proofs.Common.{◌≡◌, ℕ, ◌<◌, List, length, get_or, ◌∙◌, ap, subst, inl, inr, arith}
 use Rattle.std.specs.Prelude.{Bool, true, ℤ, pos, Some, ◌+ℤ◌, ◌-ℤ◌, ◌*ℤ◌, ◌≤ℤ◌, ◌<ℤ◌}
 use Rattle.std.proofs.lemmas.Int.{ints, by_lt_z}
 use Rattle.qap_cost.specs.Instance.{Problem}
@@ -14,16 +14,17 @@ use Rattle.pair_duals.specs.PairDuals.{Duals}
 use Rattle.pair_duals.specs.Reduced.{Form, IsFormOf, IsNonNegative, at, count_of, left_of_pair, sum_of_pairs}
 use Rattle.pair_duals.specs.Seats.{child_at}
 use Rattle.pair_duals.proofs.CostSteps.{step-divides}
-use Rattle.pair_duals.proofs.Forms.{row_duals-le, value-le}
+use Rattle.pair_duals.proofs.Forms.{IsFormOf-line, row_duals-le, value-le}
 use Rattle.pair_duals.proofs.Products.{scale-assoc}
 use Rattle.pair_duals.proofs.Seatings.{Seats-completed, facilities_of, locations_of, same_count}
 use Rattle.proof_tree.specs.Valid.{ReachesBound, under}
 use Rattle.proof_tree.proofs.Multiples.{scaled-monotone}
-use Rattle.proof_tree.proofs.Reaching.{AreUnder-least, Bounded-closed, Bounded-reached}
+use Rattle.proof_tree.proofs.Reaching.{AreUnder-least, Bounded-closed, Bounded-reached, IsNonNegative-line}
 use Rattle.proof_tree.proofs.Validity.{valid_bounds}
 use Rattle.subtree_search.specs.Best.{Best, IsIncumbent}
 use Rattle.subtree_search.specs.Clean.{clean}
 use Rattle.subtree_search.specs.Closed.{HasLeast, IsClosed, Reaches, ReachesTrivially, threshold_of}
+use Rattle.subtree_search.specs.Evaluated.{ClosesByForm}
 use Rattle.subtree_search.specs.Premises.{AreSound, IsNode}
 use Rattle.subtree_search.specs.Recorded.{HasTree}
 use Rattle.subtree_search.proofs.Cleaning.{Fit-clean, IsEven, IsFormOf-clean}
@@ -113,6 +114,12 @@ IsClosed-trivially I D step y R c n closes = record {
 pub IsClosed-by_value : (I : Problem) (D : Duals) (step : ℕ) (y : Placement) (R : Form) (c : ℤ) → IsNode I D step y R → IsNonNegative R → Reaches I D.scale c R.value → IsClosed I y c
 IsClosed-by_value I D step y R c n least reaches =
     record { least = Bounded-reached I (step_of I) D.scale c R.value y n.size (step-divides I) (reaches c (at_most c)) (λ p done. value-le I D y R p n.placement n.sound.fit n.form least done) }
+
+-- so is one that its form closes, before a line or after it
+pub IsClosed-by_form : (I : Problem) (D : Duals) (step : ℕ) (y : Placement) (R : Form) (c : ℤ) → IsNode I D step y R → ClosesByForm I D.scale c R → IsClosed I y c
+IsClosed-by_form I D step y R c n (inl trivial) = IsClosed-trivially I D step y R c n trivial
+IsClosed-by_form I D step y R c n (inr drawn) =
+    IsClosed-by_value I D step y drawn.lined c (record { placement = n.placement; size = n.size; sound = n.sound; form = IsFormOf-line I D y R drawn.lined drawn.u drawn.v n.placement n.form drawn.line }) (IsNonNegative-line R drawn.lined drawn.u drawn.v drawn.line) drawn.reaches
 
 -- a child of a node is a node
 pub IsPlacement-child : (y : Placement) (h g : ℕ) → IsPlacement y → h < length (free_facilities y) → g < length (free_locations y) → IsPlacement (child_at y h g)

@@ -6,7 +6,6 @@ pub mod Endings
 pub mod KidLists
 pub mod Needing
 pub mod Nodes
-pub mod Pieces
 pub mod Progress
 pub mod RowLists
 pub mod Settling

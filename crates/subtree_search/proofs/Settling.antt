@@ -8,16 +8,19 @@ use Rattle.qap_cost.specs.Instance.{Problem}
 use Rattle.qap_cost.specs.Objective.{cost_of}
 use Rattle.qap_cost.specs.Placement.{Placement, Completes}
 use Rattle.pair_duals.specs.PairDuals.{Duals}
-use Rattle.pair_duals.specs.Reduced.{Form, count_of}
+use Rattle.pair_duals.specs.Reduced.{Form, IsNonNegative, count_of}
 use Rattle.pair_duals.specs.Seats.{child_at}
 use Rattle.subtree_search.specs.Closed.{IsClosed}
+use Rattle.subtree_search.specs.Evaluated.{IsSkipped}
 use Rattle.subtree_search.specs.Images.{IsImage, table_of}
 use Rattle.subtree_search.specs.Lines.{IsLineOf, child_on, column_on, row_on}
 use Rattle.subtree_search.specs.Opens.{Adds, Becomes, CompletesOpen, IsOpen, IsOpenAt, IsSettled}
 use Rattle.subtree_search.specs.Premises.{IsNode}
 use Rattle.subtree_search.specs.declared.line.Line.{Line}
 use Rattle.subtree_search.specs.declared.split.OpenChild.{OpenChild}
+use Rattle.subtree_search.proofs.Closings.{IsClosed-pruned}
 use Rattle.subtree_search.proofs.Covers.{CompletesChild-cover, HasTwin-image}
+use Rattle.subtree_search.proofs.Progress.{column_within, row_within}
 
 -- a closed node is settled, whatever is open
 pub IsSettled-closed : (I : Problem) (y x : Placement) (c : ℤ) (children : List OpenChild) → IsClosed I x c → IsSettled I y c children x
@@ -61,6 +64,16 @@ IsSettled-image I D step y R line k c children n on below image settled =
             | inr found ↦ inr (subst (CompletesOpen I y children) twin.cost found)
           ];
     }
+
+-- so is a child that its parent skips
+pub IsSettled-skipped : (I : Problem) (D : Duals) (step : ℕ) (y : Placement) (R : Form) (line : Line) (k : ℕ) (c : ℤ) (children : List OpenChild) → IsNode I D step y R → IsNonNegative R → IsLineOf (count_of R) line → k < count_of R → IsSkipped I D y R line k c
+    → ((j : ℕ) → j < k → IsSettled I y c children (child_on y line j)) → IsSettled I y c children (child_on y line k)
+IsSettled-skipped I D step y R line k c children n least on below (inl reaches) settled =
+    let h = row_on line k in
+    let g = column_on line k in
+    let closed = IsClosed-pruned I D step y R h g c n least (row_within (count_of R) k line on below) (column_within (count_of R) k line on below) reaches in
+    IsSettled-closed I y (child_on y line k) c children closed
+IsSettled-skipped I D step y R line k c children n least on below (inr image) settled = IsSettled-image I D step y R line k c children n on below image settled
 
 -- one child more
 pub settled_more : (I : Problem) (y : Placement) (line : Line) (c : ℤ) (children : List OpenChild) (n : ℕ) → ((k : ℕ) → k < n → IsSettled I y c children (child_on y line k)) → IsSettled I y c children (child_on y line n) → (k : ℕ) → k < n + 1 → IsSettled I y c children (child_on y line k)

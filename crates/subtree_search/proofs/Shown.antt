@@ -1,32 +1,17 @@
--- The bounds that trees show: those of leaves, and the least of several.
-use Rattle.std.proofs.Common.{◌≡◌, ℕ, zero, suc, ◌+◌, ◌*◌, ◌^◌, ◌<◌, Bool, true, false, List, Option, Some, None, refl, ◌∙◌, ap, subst, arith, ℤ, of_z, to_z}
-use Rattle.std.specs.Int.{w128}
-use Rattle.std.specs.Prelude.{pos, ◌*ℤ◌, ◌<ℤ◌, ◌≤ℤ◌, ◌≤◌, IfOk, IfSome, Result, Ok, Err, unsigned_abs}
-use Rattle.std.proofs.lemmas.Int.{by_lt_z, ints}
-use Rattle.std.proofs.lemmas.List.Elements.{All-weaker}
+-- The bounds that leaves reach.
+use Rattle.std.proofs.Common.{◌≡◌, ℕ, zero, suc, ◌+◌, ◌*◌, ◌^◌, ◌<◌, Bool, true, false, ◌∙◌, ap, arith, ℤ}
+use Rattle.std.specs.Prelude.{pos, ◌*ℤ◌, ◌≤◌, unsigned_abs}
+use Rattle.std.proofs.lemmas.Int.{ints}
 use Rattle.std.proofs.Math.Nat.{le-max_left}
 use borrow.Author.Differences.{product_is}
 use Rattle.qap_cost.specs.Instance.{Problem}
-use Rattle.qap_cost.specs.Placement.{Placement}
-use Rattle.qap_cost.specs.Range.{IsLimited}
-use Rattle.qap_lines.specs.Bound.{IsBoundFor}
 use Rattle.pair_duals.specs.CostStep.{Divides, step_of}
-use Rattle.pair_duals.specs.PairDuals.{Duals}
 use Rattle.pair_duals.specs.Range.{IsInReach, value_reach}
-use Rattle.pair_duals.specs.Reduced.{Form, count_of}
+use Rattle.pair_duals.specs.Reduced.{Form}
 use Rattle.pair_duals.proofs.Products.{scale-assoc}
 use Rattle.proof_tree.specs.Valid.{ReachesBound}
 use Rattle.subtree_search.specs.Closed.{Reaches}
-use Rattle.subtree_search.specs.Lines.{IsLineOf, child_on, column_on, row_on}
-use Rattle.subtree_search.specs.Piece.{AreWhole, Proved}
-use Rattle.subtree_search.specs.Premises.{IsNode, limits_of_64}
-use Rattle.subtree_search.specs.Recorded.{HasBegun, HasKid}
-use Rattle.subtree_search.specs.Trials.{IsBegun, IsGrown, Settles}
-use Rattle.subtree_search.specs.declared.line.Line.{Line}
-use Rattle.subtree_search.specs.declared.split.OpenChild.{OpenChild}
-use Rattle.subtree_search.proofs.KidLists.{HasBegun-more}
-use Rattle.subtree_search.proofs.Progress.{column_within, row_within}
-use Rattle.subtree_search.proofs.Trees.{HasKid-tree}
+use Rattle.subtree_search.specs.Premises.{limits_of_64}
 
 -- in multiples of the cost step, a value reaches every bound up to one that it reaches in multiples of a divisor of it
 pub Reaches-bound : (I : Problem) (step scale : ℕ) (g value : ℤ) → Divides step (pos (step_of I)) → ReachesBound step g scale value → Reaches I scale g value
@@ -54,66 +39,3 @@ small-value R h =
     let deep = h.deep in
     let value = h.value in
     omega (arith, most, deep, value)
-
--- what settles a child for a bound settles it for a lesser one
-pub HasKid-less : (I : Problem) (D : Duals) (y : Placement) (R : Form) (line : Line) (k : ℕ) (c d : ℤ) (ends old new : List ℕ → Type 0) → d ≤ℤ c → HasKid I D y R line k c ends old new → HasKid I D y R line k d ends old new
-HasKid-less I D y R line k c d ends old new less h = record {
-  kid = h.kid;
-  shape = h.shape;
-  valid = λ bound small. h.valid bound (omega (arith, ints, small, less));
-  grows = h.grows;
-}
-
--- a child that is marked, and over which a tree is added, is settled
-pub HasKid-grown : (I : Problem) (D : Duals) (step : ℕ) (y : Placement) (R : Form) (line : Line) (k : ℕ) (c : ℤ) (ends old mid new : List ℕ → Type 0) → IsNode I D step y R → IsLineOf (count_of R) line → k < count_of R → IsBegun I D R line k ends old mid
-    → IsGrown I D y R line k c mid new → HasKid I D y R line k c ends old new
-HasKid-grown I D step y R line k c ends old mid new n on below begun grown =
-    HasKid-tree I D step y (child_on y line k) R grown.form line k c ends old mid new (row_on line k) (column_on line k) n.sound.even n (row_within (count_of R) k line on below) (column_within (count_of R) k line on below) refl refl refl grown.child begun.marked.each
-    grown.tree
-
--- trees that are valid for a bound are valid for a lesser one
-pub AreWhole-less : (c d : ℤ) (ps : List Proved) → d ≤ℤ c → AreWhole c ps → AreWhole d ps
-AreWhole-less c d ps less all = All-weaker (λ (p : Proved). c ≤ℤ p.bound) (λ (p : Proved). d ≤ℤ p.bound) (λ p h. omega (arith, ints, less, h)) ps all
-
--- what is said of an answer, where it is some number
-pub some_of : (P : ℤ → Type 0) (o : Option ℤ) (z : ℤ) → o ≡ Some z → IfSome o P → P z
-some_of P o z is h = subst (λ (q : Option ℤ). IfSome q P) is h
-
--- a trial that leaves no child has settled it
-pub settled_by : (I : Problem) (D : Duals) (y : Placement) (R : Form) (line : Line) (k : ℕ) (c : ℤ) (ends old new : List ℕ → Type 0) (o : Option OpenChild) → o ≡ None → Settles I D y R line k c ends old new o → HasKid I D y R line k c ends old new
-settled_by I D y R line k c ends old new o is h = subst (Settles I D y R line k c ends old new) is h
-
--- ---- costs and bounds as they are passed on
-
-pub cost_read : (v c : ℤ) → v ≡ c → unsigned_abs v ≤ 65536 * 10 ^ 18 → c ≡ to_z w128 (of_z w128 v)
-cost_read v c is near = omega (arith, ints, is, near)
-
-pub IsBoundFor-cost : (v c : ℤ) → v ≡ c → unsigned_abs v ≤ 65536 * 10 ^ 18 → IsBoundFor c (to_z w128 (of_z w128 v))
-IsBoundFor-cost v c is near = record { limited = omega (arith, ints, near); at_most = omega (arith, ints, is, near) }
-
--- so it is not below the cost
-pub none_less : (v c : ℤ) → v ≡ c → unsigned_abs v ≤ 65536 * 10 ^ 18 → to_z w128 (of_z w128 v) <ℤ c → ⊥
-none_less v c is near less = omega (arith, ints, is, near, less)
-
--- ---- the least of the bounds of several children
-
--- one more child, of a bound of its own, and one that is at most that and the least of those before
-pub HasBegun-least : (I : Problem) (D : Duals) (y : Placement) (R : Form) (u : List ℤ) (line : Line) (number n : ℕ) (b shown d : ℤ) (ends old mid new : List ℕ → Type 0) → n < count_of R → d ≤ℤ b → d ≤ℤ shown
-    → HasBegun I D y R u line number n b ends old mid → HasKid I D y R line n shown ends mid new → HasBegun I D y R u line number (n + 1) d ends old new
-HasBegun-least I D y R u line number n b shown d ends old mid new below first second begun kid =
-    HasBegun-more I D y R u line number n b d ends old mid new below first begun (HasKid-less I D y R line n shown d ends mid new second kid)
-
--- that is a bound for the cost
-pub IsBoundFor-least : (cost b d : ℤ) → b ≤ℤ cost → d ≤ℤ b → IsLimited d → IsBoundFor cost d
-IsBoundFor-least cost b d most less limited = record { limited = limited; at_most = omega (arith, ints, most, less) }
-
--- if it is below the cost, so was the least of those before, or the child's own
-pub stopped_by : (S : Type 0) (cost now b shown d : ℤ) → now ≤ℤ cost → (b <ℤ cost → S) → (shown <ℤ now → S) → ((e : ℤ) → e ≤ℤ b → e ≤ℤ shown → e ≤ℤ d) → d <ℤ now → S
-stopped_by S cost now b shown d fell before own greatest less =
-    by_lt_z b now (λ below. before (omega (arith, ints, below, fell)))
-    (λ above. by_lt_z shown now own (λ high. let both = greatest now above high in absurd (omega (arith, ints, less, both))))
-
--- what holds of a result under a premise, where that holds
-pub stops_by : {E : Type 0} (r : Result ℤ E) (W : Type 0) (P : ℤ → Type 0) → IfOk r (λ z. W → P z) → W → IfOk r P
-stops_by (Ok z) W P h whole = h whole
-stops_by (Err e) W P h whole = tt

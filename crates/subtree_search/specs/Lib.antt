@@ -11,7 +11,6 @@ pub mod Needs
 pub mod Opens
 pub mod Outcomes
 pub mod Path
-pub mod Piece
 pub mod Premises
 pub mod Recorded
 pub mod Rows

@@ -4,8 +4,8 @@ use Rattle.qap_cost.specs.Instance.{Problem}
 use Rattle.qap_cost.specs.Placement.{Placement}
 use Rattle.pair_duals.specs.PairDuals.{Duals}
 use Rattle.pair_duals.specs.Reduced.{Form, IsChild}
-use Rattle.subtree_search.specs.Lines.{child_on, column_on, row_on}
-use Rattle.subtree_search.specs.Recorded.{HasKid, HasTree}
+use Rattle.subtree_search.specs.Lines.{column_on, row_on}
+use Rattle.subtree_search.specs.Recorded.{HasKid}
 use Rattle.subtree_search.specs.declared.line.Line.{Line}
 use Rattle.subtree_search.specs.declared.split.OpenChild.{OpenChild}
 
@@ -23,9 +23,3 @@ pub record IsBegun (I : Problem) (D : Duals) (R : Form) (line : Line) (k : ℕ) 
 abbrev pub Settles : Problem → Duals → Placement → Form → Line → ℕ → ℤ → (List ℕ → Type 0) → (List ℕ → Type 0) → (List ℕ → Type 0) → Option OpenChild → Type 0
 Settles I D y R line k c ends old new None = HasKid I D y R line k c ends old new
 Settles I D y R line k c ends old new (Some child) = IsBegun I D R line k ends old new
-
--- the k-th child on the line has a form, and the text of a tree over it is added that is valid for every bound up to c
-pub record IsGrown (I : Problem) (D : Duals) (y : Placement) (R : Form) (line : Line) (k : ℕ) (c : ℤ) (old new : List ℕ → Type 0) : Type 0 where
-  pub form : Form
-  pub child : IsChild I D R (row_on line k) (column_on line k) form
-  pub tree : HasTree I D (child_on y line k) form c old new

@@ -8,6 +8,7 @@ ghost use Rattle.subtree_search.specs.Best.{IsIncumbent};
 ghost use Rattle.subtree_search.specs.Lines.{IsLineOf};
 ghost use Rattle.subtree_search.specs.Premises.{AreSymmetries, IsNode};
 
+use crate::estimating::Estimate;
 use crate::ground::Ground;
 use crate::incumbent::Incumbent;
 use crate::level::{Level, gap_to};
@@ -232,7 +233,7 @@ impl Ground<'_> {
         path: &mut Path,
         incumbent: &mut Incumbent,
         dives: u32,
-    ) -> Result<f64, AllocError>
+    ) -> Result<Estimate, AllocError>
         requires node { IsNode self.now.instance.now self.now.duals.now self.now.step path.old level.now.form }
         requires line { IsLineOf (count_of level.now.form) line }
         requires room { count_of level.now.form ≤ length deeper.old }
@@ -244,10 +245,13 @@ impl Ground<'_> {
     {
         let mut random = Xoshiro256PlusPlus::seed_from_u64(SEED);
         let mut total = 0.0;
+        let mut squares = 0.0;
         'dives: for _ in 0..dives {
-            total += self.dive(level, line, deeper, path, incumbent, &mut random)?;
+            let nodes = self.dive(level, line, deeper, path, incumbent, &mut random)?;
+            total += nodes;
+            squares += nodes * nodes;
         }
-        Ok(total / f64::from(dives.max(1)))
+        Ok(Estimate::of_sums(dives, total, squares))
     }
 
     /// Whether a few dives estimate the nodes below a node at more than four times as many as its trial may evaluate.
@@ -269,9 +273,9 @@ impl Ground<'_> {
         ensures no_worse { incumbent.new.cost ≤ℤ incumbent.old.cost }
     {
         let line = self.best_line(level, path, incumbent);
-        let nodes = self.estimate(level, line, deeper, path, incumbent, FEW_DIVES)?;
+        let estimate = self.estimate(level, line, deeper, path, incumbent, FEW_DIVES)?;
         let most = i64::try_from(limit.saturating_mul(4)).unwrap_or(i64::MAX);
-        Ok(nodes > nearest_i64_to_f64(most))
+        Ok(estimate.nodes > nearest_i64_to_f64(most))
     }
 
     /// The line below which dives estimate the fewest nodes, of the four rows and the four columns that lack least
@@ -299,10 +303,10 @@ impl Ground<'_> {
         let mut fewest = f64::INFINITY;
         for rank in 0..2 * LINES {
             let line = ranked_line(level, threshold, rank, &hints);
-            let nodes = self.estimate(level, line, deeper, path, incumbent, DIVES)?;
-            if nodes < fewest {
+            let estimate = self.estimate(level, line, deeper, path, incumbent, DIVES)?;
+            if estimate.nodes < fewest {
                 best = line;
-                fewest = nodes;
+                fewest = estimate.nodes;
             }
         }
         Ok(best)

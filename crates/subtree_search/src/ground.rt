@@ -46,24 +46,6 @@ pub(crate) struct Ground<'a> {
 }
 
 impl Ground<'_> {
-    /// The same under other pair duals, whose residuals are not kept.
-    pub fn under<'x>(&'x self, duals: &'x PairDuals<i64>) -> Ground<'x>
-        ensures instance { result.instance.now ≡ self.now.instance.now }
-        ensures duals { result.duals.now ≡ duals.now }
-        ensures step { result.step ≡ self.now.step }
-        ensures flows { result.flows.now ≡ self.now.flows.now }
-        ensures distances { result.distances.now ≡ self.now.distances.now }
-    {
-        Ground {
-            instance: self.instance,
-            duals,
-            step: self.step,
-            flows: self.flows,
-            distances: self.distances,
-            kept: None,
-        }
-    }
-
     /// The threshold above which a node's value closes it.
     pub fn threshold(&self, incumbent: &Incumbent) -> i128
         ensures { result ≡ threshold_of self.now.duals.now.scale self.now.step incumbent.now.cost }

@@ -1,8 +1,9 @@
-//! Depth-first search of the whole subtree below a node, under pair duals of that node, and proofs of nodes by such
+//! Depth-first search of the whole subtree below a node, under pair duals of that node, and splits of nodes by such
 //! searches.
 #![tactic(auto)]
 
 mod dives;
+mod estimating;
 mod ground;
 mod images;
 mod incumbent;
@@ -10,8 +11,6 @@ mod level;
 mod line;
 mod outcome;
 mod path;
-mod piece;
-mod proving;
 mod record;
 mod residuals;
 mod search;
@@ -21,11 +20,11 @@ mod text_record;
 mod threshold;
 mod trial;
 
+pub use estimating::Estimate;
 pub use incumbent::Incumbent;
 pub use outcome::Outcome;
-pub use piece::Piece;
 pub use record::{Record, Silent};
 pub use search::{Subtree, SubtreeSearch};
 pub use split::OpenChild;
 pub use stop::{Never, Stop};
-pub use text_record::TextRecord;
+pub use text_record::{Hole, TextRecord};

@@ -1,6 +1,6 @@
 //! The path from the root of a search to its current node.
 
-ghost use Rattle.std.specs.Prelude.{◌≡◌, ◌<◌, ℕ, IfOk, IsTrue, OnErr, OnOk, length, slice_index};
+ghost use Rattle.std.specs.Prelude.{◌≡◌, ◌<◌, ℕ, IfOk, OnErr, OnOk, length, slice_index};
 ghost use Rattle.qap_cost.specs.Bijection.{IsPerm};
 ghost use Rattle.qap_cost.specs.Placement.{Completes, Placement, IsFreeFacility, IsFreeLocation, IsPlacement, placing, root_of};
 ghost use Rattle.subtree_search.specs.Images.{taken_of};
@@ -49,15 +49,6 @@ impl Path {
             Table::Flows => &self.facilities,
             Table::Distances => &self.places,
         }
-    }
-
-    /// Whether it leads to this node, listed in the same order.
-    pub fn is_at(&self, node: &Partial) -> bool
-        ensures { IsTrue result → node.now ≡ self.now }
-    {
-        node.size() == self.size
-            && *node.facilities() == *self.facilities
-            && *node.places() == *self.places
     }
 
     /// Moves to a node, in its own memory if that suffices.

@@ -1,4 +1,4 @@
-//! The split of a node whose children are tried, each within a limit.
+//! The split of a node whose children are tried, each within a limit, and recorded.
 
 ghost use Rattle.std.specs.Prelude.{◌≡◌, ◌<◌, ◌≤◌, ◌≤ℤ◌, pos, All, IfOk, IfSome, OnOk, length};
 ghost use Rattle.pair_duals.specs.CostStep.{step_of};
@@ -6,6 +6,7 @@ ghost use Rattle.pair_duals.specs.PairDuals.{AreOf, Fit};
 ghost use Rattle.pair_duals.specs.Range.{IsInScale};
 ghost use Rattle.pair_duals.specs.Reduced.{IsNonNegative, count_of};
 ghost use Rattle.subtree_search.specs.Best.{IsIncumbent};
+ghost use Rattle.subtree_search.specs.Evaluated.{IsKept};
 ghost use Rattle.subtree_search.specs.Lines.{IsLineOf, child_on};
 ghost use Rattle.subtree_search.specs.Needs.{IsLeft, IsLined, NeedsTrial};
 ghost use Rattle.subtree_search.specs.Opens.{Adds, Becomes, IsOpen, IsSettled};
@@ -15,9 +16,9 @@ use crate::ground::Ground;
 use crate::incumbent::Incumbent;
 use crate::level::Level;
 use crate::path::Path;
-use crate::record::Silent;
+use crate::record::Record;
 use crate::residuals::{keep, take_back};
-use crate::search::{Split, Subtree, SubtreeSearch, Task, make_room, step_within};
+use crate::search::{Split, Subtree, SubtreeSearch, Task, make_room, skip, step_within};
 use crate::stop::Stop;
 use crate::trial::try_child;
 use qap_cost::Partial;
@@ -38,11 +39,14 @@ impl SubtreeSearch {
     ///
     /// The trial of a child with `m` free facilities evaluates at most `m^4 / 8` nodes, but at least 200 and at most
     /// 100,000. Once a stop is requested, children are left open untried.
-    pub fn split<S: Stop>(
+    ///
+    /// The text of the node's tree is added to the record, where an open child is a leaf: advice, which no proof relies on.
+    pub fn split<S: Stop, W: Record>(
         &mut self,
         subtree: &Subtree<'_>,
         incumbent: &mut Incumbent,
         stop: &S,
+        proof: &mut W,
     ) -> Result<Vec<OpenChild>, AllocError>
         requires size { subtree.now.instance.now.size ≡ subtree.now.node.now.size }
         requires duals { AreOf subtree.now.node.now subtree.now.duals.now }
@@ -88,15 +92,64 @@ impl SubtreeSearch {
             &mut self.path,
             incumbent,
             &mut nodes,
+            proof,
         )?;
         self.nodes = nodes;
         take_back(&mut self.residuals, kept);
         Ok(children)
     }
+
+    /// Adds a tree over a node to the record that is one leaf, which is left open: advice, as above.
+    pub fn leave<W: Record>(
+        &mut self,
+        subtree: &Subtree<'_>,
+        incumbent: &Incumbent,
+        proof: &mut W,
+    ) -> Result<(), AllocError>
+        requires size { subtree.now.instance.now.size ≡ subtree.now.node.now.size }
+        requires duals { AreOf subtree.now.node.now subtree.now.duals.now }
+        requires in_scale { IsInScale limits_of_64 subtree.now.instance.now subtree.now.duals.now.scale }
+        requires fit { Fit subtree.now.instance.now subtree.now.duals.now }
+        requires step { subtree.now.step ≡ pos (step_of subtree.now.instance.now) }
+    {
+        make_room(&mut self.levels, &mut self.size, subtree.duals.free())?;
+        let ground = Ground {
+            instance: subtree.instance,
+            duals: subtree.duals,
+            step: step_within(subtree.step),
+            flows: subtree.flows,
+            distances: subtree.distances,
+            kept: None,
+        };
+        let (levels, path) = (&mut self.levels, &mut self.path);
+        leave_node(&ground, subtree.node, levels, path, incumbent, proof)
+    }
+}
+
+/// Records the node that the pair duals belong to as a leaf that is left open.
+fn leave_node<W: Record>(
+    ground: &Ground<'_>,
+    node: &Partial,
+    levels: &mut [Level],
+    path: &mut Path,
+    incumbent: &Incumbent,
+    proof: &mut W,
+) -> Result<(), AllocError>
+    requires size { ground.now.instance.now.size ≡ node.now.size }
+    requires duals { AreOf node.now ground.now.duals.now }
+    requires sound { AreSound ground.now.instance.now ground.now.duals.now ground.now.step }
+    requires room { 0 < length levels.old }
+{
+    let level = &mut levels[0];
+    ground.begin(node, level, path)?;
+    level.draw_line(ground.threshold(incumbent))?;
+    let bound = ground.bound_of(level).min(incumbent.cost());
+    proof.pair_duals(ground.duals)?;
+    proof.leave(None, bound, level.u())
 }
 
 /// Splits the node that the pair duals belong to.
-fn split_node<S: Stop>(
+fn split_node<S: Stop, W: Record>(
     alloc: Global,
     task: &Task<'_, S>,
     node: &Partial,
@@ -104,6 +157,7 @@ fn split_node<S: Stop>(
     path: &mut Path,
     incumbent: &mut Incumbent,
     nodes: &mut u64,
+    proof: &mut W,
 ) -> Result<Vec<OpenChild>, AllocError>
     requires size { task.now.ground.now.instance.now.size ≡ node.now.size }
     requires duals { AreOf node.now task.now.ground.now.duals.now }
@@ -120,15 +174,16 @@ fn split_node<S: Stop>(
     let (first, deeper) = levels.split_at_mut(1);
     let level = &mut first[0];
     task.ground.begin(node, level, path)?;
-    if task.ground.closes(level, path, incumbent)? {
+    proof.pair_duals(task.ground.duals)?;
+    if task.ground.closes_as_leaf(level, path, incumbent, proof)? {
         return Ok(Vec::new(alloc));
     }
-    let children = split_children(alloc, task, level, deeper, path, incumbent, nodes)?;
+    let children = split_children(alloc, task, level, deeper, path, incumbent, nodes, proof)?;
     Ok(children)
 }
 
 /// Tries the children on a row or column, and lists those that are left open.
-fn split_children<S: Stop>(
+fn split_children<S: Stop, W: Record>(
     alloc: Global,
     task: &Task<'_, S>,
     level: &Level,
@@ -136,6 +191,7 @@ fn split_children<S: Stop>(
     path: &mut Path,
     incumbent: &mut Incumbent,
     nodes: &mut u64,
+    proof: &mut W,
 ) -> Result<Vec<OpenChild>, AllocError>
     requires node { IsNode task.now.ground.now.instance.now task.now.ground.now.duals.now task.now.ground.now.step path.old level.now.form }
     requires least { IsNonNegative level.now.form }
@@ -151,17 +207,15 @@ fn split_children<S: Stop>(
     ensures no_worse { incumbent.new.cost ≤ℤ incumbent.old.cost }
 {
     let line = task.ground.sampled_line(level, deeper, path, incumbent)?;
-    let split = Split {
-        level,
-        line,
-        marks: 0,
-    };
+    let number = task.ground.number_of(level, path, line);
+    let marks = proof.split(line.side(), number, level.u())?;
+    let split = Split { level, line, marks };
     let mut children = Vec::new(alloc);
     for k in 0..level.form.free() {
-        if task.ground.is_image(level, path, line.table(), k) {
+        if skip(task, &split, path, incumbent, k, proof)? {
             continue;
         }
-        let child = child_left(task, &split, k, deeper, path, incumbent, nodes)?;
+        let child = child_left(task, &split, k, deeper, path, incumbent, nodes, proof)?;
         add(&mut children, child)?;
     }
     Ok(children)
@@ -177,8 +231,8 @@ fn add(children: &mut Vec<OpenChild>, child: Option<OpenChild>) -> Result<(), Al
     Ok(())
 }
 
-/// The child of number `k`, where it is left open; `None` if it is pruned or its trial closes it.
-fn child_left<S: Stop>(
+/// The child of number `k`, where it is left open; `None` if its trial closes it.
+fn child_left<S: Stop, W: Record>(
     task: &Task<'_, S>,
     split: &Split<'_>,
     k: usize,
@@ -186,11 +240,12 @@ fn child_left<S: Stop>(
     path: &mut Path,
     incumbent: &mut Incumbent,
     nodes: &mut u64,
+    proof: &mut W,
 ) -> Result<Option<OpenChild>, AllocError>
     requires node { IsNode task.now.ground.now.instance.now task.now.ground.now.duals.now task.now.ground.now.step path.old split.now.level.now.form }
-    requires least { IsNonNegative split.now.level.now.form }
     requires line { IsLineOf (count_of split.now.level.now.form) split.now.line }
     requires k_in { k < count_of split.now.level.now.form }
+    requires kept { IsKept task.now.ground.now.duals.now task.now.ground.now.step split.now.level.now.form split.now.line k incumbent.old.cost }
     requires room { count_of split.now.level.now.form ≤ length deeper.old }
     requires symmetries { AreSymmetries task.now.ground.now.instance.now task.now.ground.now.flows.now task.now.ground.now.distances.now }
     requires incumbent { IsIncumbent task.now.ground.now.instance.now incumbent.old }
@@ -200,10 +255,24 @@ fn child_left<S: Stop>(
     ensures incumbent { IsIncumbent task.now.ground.now.instance.now incumbent.new }
     ensures no_worse { incumbent.new.cost ≤ℤ incumbent.old.cost }
 {
-    let (h, g) = (split.line.row(k), split.line.column(k));
-    if task.ground.prunes(split.level, incumbent, h, g) {
-        return Ok(None);
-    }
-    let child = try_child(task, split, k, deeper, path, incumbent, nodes, &mut Silent)?;
+    let child = try_child(task, split, k, deeper, path, incumbent, nodes, proof)?;
+    record_open(task.ground, &child, &deeper[0], incumbent, proof)?;
     Ok(child)
+}
+
+/// Records the leaf of a child, if it is left open; its form after a line is in the level.
+fn record_open<W: Record>(
+    ground: &Ground<'_>,
+    child: &Option<OpenChild>,
+    level: &Level,
+    incumbent: &Incumbent,
+    proof: &mut W,
+) -> Result<(), AllocError>
+    requires { AreSound ground.now.instance.now ground.now.duals.now ground.now.step }
+{
+    if let Some(child) = child {
+        let bound = ground.bound_of(level).min(incumbent.cost());
+        proof.leave(Some((child.facility, child.location)), bound, level.u())?;
+    }
+    Ok(())
 }

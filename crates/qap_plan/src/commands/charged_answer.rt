@@ -1,14 +1,17 @@
 //! Solves a problem with names whose places cost something or are forbidden.
 
-ghost use Rattle.std.specs.Prelude.{IfOk};
+ghost use Rattle.std.specs.Prelude.{IfOk, IfSome};
 ghost use Rattle.plan_charge.specs.Charges.{AreCharges};
 ghost use Rattle.plan_charge.specs.Forbidden.{AreForbidden};
 ghost use Rattle.plan_file.specs.Tables.{HasSizes};
 ghost use Rattle.qap_cost.specs.Objective.{Permutes};
 ghost use Rattle.qap_plan.specs.ChargedAnswer.{ArePartsIfCharged, IsChargedAnswer};
+ghost use Rattle.qap_plan.specs.Proofs.{MakesCharged};
 ghost use Rattle.plan_search.specs.Options.{AreLimited};
 
+use crate::output::proof_file::AnswerProof;
 use crate::search::charging::search_restricted;
+use crate::search::spooling::RunHooks;
 use plan_answer::{CostParts, charged_text};
 use plan_charge::{Charges, Forbidden};
 use plan_file::NamedProblem;
@@ -28,10 +31,11 @@ pub struct ChargedProblem<'a> {
     pub forbidden: &'a Forbidden,
 }
 
-/// What a search has found, the parts of its cost, and the text of the answer.
+/// What a search has found, its proof, the parts of its cost, and the text of the answer.
 #[derive(Drop)]
 pub struct ChargedAnswer {
     pub planned: Planned,
+    pub proof: Option<AnswerProof>,
     /// The parts of the cost, if the plan has costs of places.
     pub parts: Option<CostParts>,
     pub text: Vec<u8>,
@@ -45,7 +49,7 @@ pub fn charged_answer<T, K>(
     charged: &ChargedProblem<'_>,
     start: Option<Perm>,
     options: &Options,
-    keeper: &K,
+    hooks: &RunHooks<'_, T, K>,
 ) -> Result<ChargedAnswer, PlannerError>
 where
     T: Threads + Wait + time::Clock + Sync,
@@ -54,7 +58,8 @@ where
     requires sizes { HasSizes charged.now.problem.now }
     requires charges { AreCharges charged.now.problem.now.instance.size charged.now.charges.now }
     requires forbidden { AreForbidden charged.now.problem.now.instance.size charged.now.forbidden.now }
-    ensures { IfOk result (IsChargedAnswer charged.now.problem.now charged.now.charges.now charged.now.forbidden.now start) }
+    ensures answer { IfOk result (IsChargedAnswer charged.now.problem.now charged.now.charges.now charged.now.forbidden.now start) }
+    ensures proof { IfOk result (λ a. IfSome a.proof (MakesCharged charged.now.problem.now.instance charged.now.problem.now.fixed charged.now.charges.now charged.now.forbidden.now a.planned.permutation a.planned.cost a.planned.bound)) }
 {
     let problem = charged.problem;
     let restriction = Restriction {
@@ -70,20 +75,22 @@ where
         &restriction,
         &first,
         options,
-        keeper,
+        hooks,
     )?;
-    let parts = parts_of(&problem.instance, charged.charges, &found.permutation);
+    let planned = &found.planned;
+    let parts = parts_of(&problem.instance, charged.charges, &planned.permutation);
     let text = charged_text(
         alloc,
         problem,
-        &found.permutation,
-        found.cost,
-        found.bound,
+        &planned.permutation,
+        planned.cost,
+        planned.bound,
         parts,
         charged.forbidden.count > 0,
     )?;
     Ok(ChargedAnswer {
-        planned: found,
+        planned: found.planned,
+        proof: found.proof,
         parts,
         text,
     })

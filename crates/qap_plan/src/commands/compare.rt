@@ -20,7 +20,7 @@ use plan_files::{
     layout_in, plan_in, text_in, worse,
 };
 use plan_input::{Disk, Loaded, Texts, is_plan, notes_of};
-use plan_search::{Keeper, Options, Planned, RunClock, search_keeping};
+use plan_search::{Hooks, Keeper, Options, Planned, RunClock, search_keeping};
 use qap_cost::Perm;
 use qap_io::Status;
 use std::alloc::{AllocError, Global};
@@ -28,6 +28,7 @@ use std::process::ExitCode;
 use std::sync::Wait;
 use std::thread::Threads;
 use std::time;
+use subtree_search::Never;
 
 /// To compare today's arrangement with the best one.
 #[derive(Clone, Copy)]
@@ -186,7 +187,11 @@ where
 {
     let (instance, fixed) = (&problem.instance, &problem.fixed);
     let start = Some(today.copy()?);
-    let found = search_keeping(system, alloc, instance, fixed, start, options, keeper);
+    let hooks = Hooks {
+        keeper,
+        pieces: &Never,
+    };
+    let found = search_keeping(system, alloc, instance, fixed, start, options, &hooks);
     keeper.finish();
     let best = found?;
     let text = compared_text(alloc, problem, today, &best.permutation, best.bound)?;

@@ -10,18 +10,19 @@ ghost use Rattle.plan_files.specs.Outputs.{IsSuccess, severity};
 ghost use Rattle.qap_plan.specs.Solving.{FindsPart, IsPosed, IsSolved, SolvesPart, Stands, TellsKept, TellsPart, WritesPart};
 
 use crate::commands::command_line::{columns_in, ignore_rest, time_limit, with_limits};
+use crate::commands::ending::put_proof;
 use crate::output::outcome::status_of;
 use crate::output::progress::{Teller, telling_of};
-use crate::output::proof_file::proof_text;
+use crate::output::proof_file::{Proved, with_proof};
+use crate::search::spooling::{RunHooks, spool_for};
 use clap::{Arg, ArgMatches, Command};
 use plan_files::{
     Outputs, PlannerError, Refusal, Searched, Sink, bytes_in, ended, permutation_in, searched_in,
     worse,
 };
 use plan_input::{Disk, Texts};
-use plan_search::{
-    Keeper, MAX_WORKERS, Options, Planned, RunClock, WithinMemory, prove_below, standing_proof,
-};
+use plan_search::{Keeper, MAX_WORKERS, Options, RunClock, search_below, standing_proof};
+use proof_spool::SharedSpool;
 use qap_cost::{Partial, Perm, cost};
 use qap_io::Status;
 use qap_proof::{Stated, read_node_text};
@@ -202,10 +203,19 @@ where
     K: Keeper,
     requires root { IsRoot posed.now.searched.instance.size posed.now.node }
     requires start { Permutes posed.now.searched.instance posed.now.start }
+    requires limited { AreLimited request.now.options }
     ensures { IfOk result (λ status. IsSuccess status → FindsPart S.writes S.prints request.now.proof.now posed.now status sink.old sink.new) }
 {
-    let (found, text) = solved(system, alloc, posed, &request.options, keeper)?;
-    Ok(write_part(alloc, sink, request.proof, &found, &text))
+    let spool = match spool_for(alloc, sink, Some(request.proof)) {
+        Ok(spool) => spool,
+        Err(status) => return Ok(status),
+    };
+    let hooks = RunHooks {
+        keeper,
+        pieces: &SharedSpool::new(system, spool),
+    };
+    let found = solved(system, alloc, posed, &request.options, &hooks)?;
+    Ok(write_part(alloc, sink, request.proof, found))
 }
 
 /// What is to be solved.
@@ -271,53 +281,42 @@ fn unread(refusal: Refusal<'_>) -> Result<Option<Stated>, Refusal<'_>>
     }
 }
 
-/// What the search of the part has found, and the text of its proof.
+/// What the search of the part has found, with its proof.
 fn solved<T, K>(
     system: &T,
     alloc: Global,
     posed: &Posed,
     options: &Options,
-    keeper: &K,
-) -> Result<(Planned, Vec<u8>), PlannerError>
+    hooks: &RunHooks<'_, T, K>,
+) -> Result<Proved, PlannerError>
 where
     T: Threads + Wait + time::Clock + Sync,
     K: Keeper,
     requires root { IsRoot posed.now.searched.instance.size posed.now.node }
     requires start { Permutes posed.now.searched.instance posed.now.start }
-    ensures { IfOk result (λ s. IsSolved posed.now s.0 s.1.items) }
+    requires limited { AreLimited options.now }
+    ensures { IfOk result (IsSolved posed.now) }
 {
-    let within = WithinMemory::new(keeper, options.allowed_bytes());
     let (instance, node) = (&posed.searched.instance, &posed.node);
-    let found = prove_below(
-        system,
-        alloc,
-        instance,
-        node,
-        &posed.start,
-        options,
-        &within,
-    );
-    keeper.finish();
+    let found = search_below(system, alloc, instance, node, &posed.start, options, hooks);
+    hooks.keeper.finish();
     let found = found?;
-    let text = proof_text(alloc, &found)?;
-    Ok((found, text))
+    let answer = with_proof(alloc, instance, node, found, hooks.pieces);
+    Ok(answer)
 }
 
 /// Writes the proof, and prints what it establishes. If the proof cannot be written, nothing is printed about it.
-fn write_part<S: Sink>(
-    alloc: Global,
-    sink: &mut S,
-    file: &str,
-    found: &Planned,
-    text: &[u8],
-) -> Status
-    ensures { IsSuccess result → WritesPart S.writes S.prints file.now found.now text.now result sink.old sink.new }
+fn write_part<S: Sink>(alloc: Global, sink: &mut S, file: &str, found: Proved) -> Status
+    ensures { IsSuccess result → WritesPart S.writes S.prints file.now found result sink.old sink.new }
 {
-    let written = sink.put(alloc, file, text);
-    if written != Status::Done {
-        return written;
+    let Proved { planned, proof } = found;
+    let Some(proof) = proof else {
+        return sink.refuse(file, PlannerError::NoProof);
+    };
+    match put_proof(alloc, sink, file, proof) {
+        Status::Done => tell(alloc, sink, planned.cost, planned.bound, ""),
+        failed => failed,
     }
-    tell(alloc, sink, found.cost, found.bound, "")
 }
 
 /// Prints what the proof of the part establishes, and returns how the run ends.

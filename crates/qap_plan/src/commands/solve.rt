@@ -1,6 +1,7 @@
 //! A run on a plan that names its tables.
 
 ghost use Rattle.std.specs.Prelude.{IfOk, IfSome, length, ◌≡◌};
+ghost use Rattle.qap_plan.specs.Proofs.{HasSame, MakesFor};
 ghost use Rattle.plan_file.specs.Tables.{HasSizes};
 ghost use Rattle.qap_plan.specs.Answered.{AnswersPlan, IsAnsweredPlan, TellsAnswer};
 ghost use Rattle.plan_search.specs.Keeping.{IsKept};
@@ -13,13 +14,16 @@ use crate::commands::ending::write_outputs;
 use crate::commands::solve_restricted::solve_restricted;
 use crate::output::plan_outcome::PlanOutcome;
 use crate::output::progress::{Teller, telling_of};
-use plan_file::NamedProblem;
+use crate::output::proof_file::{Proved, with_proof};
+use crate::search::spooling::{RunHooks, spool_for};
+use plan_file::{NamedProblem, ascending};
 use plan_files::{
     Outputs, PlannerError, Refusal, Sink, cost_decimals, ended, inputs_of, is_plain, plan_in,
     start_in,
 };
 use plan_input::{Disk, Loaded, Texts};
-use plan_search::{Keeper, Options, Planned, RunClock, search_keeping};
+use plan_search::{Keeper, Options, RunClock, search_keeping};
+use proof_spool::SharedSpool;
 use qap_cost::Perm;
 use qap_io::Status;
 use std::alloc::{AllocError, Global};
@@ -128,16 +132,24 @@ where
     requires start { IfSome start.now (λ p. length p ≡ loaded.now.problem.instance.size) }
     ensures { IfOk result (λ status. IsSuccess status → TellsAnswer S.writes S.prints request.now loaded.now.problem start.now status sink.old sink.new) }
 {
+    let spool = match spool_for(alloc, sink, request.proof) {
+        Ok(spool) => spool,
+        Err(status) => return Ok(status),
+    };
+    let hooks = RunHooks {
+        keeper,
+        pieces: &SharedSpool::new(system, spool),
+    };
     let (problem, options) = (&loaded.problem, &request.options);
-    let answer = arranged(system, alloc, problem, start, options, keeper)?;
+    let answer = arranged(system, alloc, problem, start, options, &hooks)?;
     let found = PlanOutcome {
         loaded,
         start,
-        answer: &answer,
+        answer,
         file: request.file,
         milliseconds: keeper.now(),
     };
-    Ok(write_outputs(alloc, sink, request, &found))
+    Ok(write_outputs(alloc, sink, request, found))
 }
 
 /// What the search of the arrangements that keep what is fixed finds, from a start if there is one.
@@ -147,22 +159,25 @@ fn arranged<T, K>(
     problem: &NamedProblem,
     start: &Option<Perm>,
     options: &Options,
-    keeper: &K,
-) -> Result<Planned, AllocError>
+    hooks: &RunHooks<'_, T, K>,
+) -> Result<Proved, AllocError>
 where
     T: Threads + Wait + time::Clock + Sync,
     K: Keeper,
     requires limited { AreLimited options.now }
     requires sizes { HasSizes problem.now }
     requires start { IfSome start.now (λ p. length p ≡ problem.now.instance.size) }
-    ensures { IfOk result (λ x. IsKept problem.now.instance problem.now.fixed start.now x.permutation x.cost x.bound) }
+    ensures kept { IfOk result (λ a. IsKept problem.now.instance problem.now.fixed start.now a.planned.permutation a.planned.cost a.planned.bound) }
+    ensures proof { IfOk result (λ a. IfSome a.proof (MakesFor problem.now.instance (HasSame problem.now.fixed) a.planned.permutation a.planned.cost a.planned.bound)) }
 {
     let (instance, fixed) = (&problem.instance, &problem.fixed);
     let first = copy_of(start)?;
-    let found = search_keeping(system, alloc, instance, fixed, first, options, keeper);
-    keeper.finish();
+    let root = ascending(alloc, fixed)?;
+    let found = search_keeping(system, alloc, instance, fixed, first, options, hooks);
+    hooks.keeper.finish();
     let found = found?;
-    Ok(found)
+    let answer = with_proof(alloc, instance, &root, found, hooks.pieces);
+    Ok(answer)
 }
 
 /// The same arrangement, if there is one.

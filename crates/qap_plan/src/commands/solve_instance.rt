@@ -1,8 +1,11 @@
 //! A run on an instance without names.
 
-ghost use Rattle.std.specs.Prelude.{IfOk, option_copied, option_map};
+ghost use Rattle.std.specs.Prelude.{IfOk, IfSome, option_copied, option_map};
+ghost use Rattle.qap_cost.specs.Placement.{root_of};
+ghost use Rattle.qap_plan.specs.Proofs.{Is, MakesFor};
 ghost use Rattle.qap_plan.specs.Answered.{AnswersInstance, HasFoundIn};
 ghost use Rattle.plan_search.specs.Options.{AreLimited};
+ghost use Rattle.plan_search.specs.Planning.{ProvesOver};
 ghost use Rattle.plan_files.specs.Outputs.{IsSuccess};
 ghost use Rattle.plan_files.specs.Sources.{IsGivenIn};
 ghost use Rattle.plan_files.specs.Starting.{IsReaderOf};
@@ -12,9 +15,13 @@ use crate::commands::command_line::Request;
 use crate::commands::ending::{faulty_file, write_outputs};
 use crate::output::found_outcome::FoundOutcome;
 use crate::output::progress::{Teller, telling_of};
+use crate::output::proof_file::{Proved, with_proof};
+use crate::search::spooling::{RunHooks, spool_for};
 use plan_files::{Misuse, Outputs, PlannerError, Refusal, Sink, bytes_in, ended};
 use plan_input::{Disk, Texts};
 use plan_search::{Keeper, Planned, RunClock};
+use proof_spool::SharedSpool;
+use qap_cost::{Instance, Partial};
 use qap_io::{Counted, Status};
 use std::alloc::Global;
 use std::process::ExitCode;
@@ -63,15 +70,24 @@ where
     if let Err(status) = sink.open(alloc, &names, &[request.file]) {
         return Err(Refusal::Reported(status));
     }
-    let answer = match found(system, alloc, request, &bytes, &start, keeper) {
-        Ok(answer) => answer,
+    let spool = match spool_for(alloc, sink, request.proof) {
+        Ok(spool) => spool,
+        Err(status) => return Err(Refusal::Reported(status)),
+    };
+    let hooks = RunHooks {
+        keeper,
+        pieces: &SharedSpool::new(system, spool),
+    };
+    let (instance, answer) = match found(system, alloc, request, &bytes, &start, &hooks) {
+        Ok(found) => found,
         Err(error) => return Err(Refusal::File(faulty_file(request, error), error)),
     };
     let found = FoundOutcome {
-        answer: &answer,
+        instance: &instance,
+        answer,
         milliseconds: keeper.now(),
     };
-    Ok(write_outputs(alloc, sink, request, &found))
+    Ok(write_outputs(alloc, sink, request, found))
 }
 
 /// What is requested of an instance that only a plan can have.
@@ -102,20 +118,44 @@ fn start_in<'a, D: Texts>(
     }
 }
 
-/// What the search of an instance finds, from a start if there is one.
+/// An instance, and what its search finds, from a start if there is one, with its proof if one is requested.
 fn found<T, K>(
     system: &T,
     alloc: Global,
     request: &Request<'_>,
     instance: &[u8],
     start: &Option<Vec<u8>>,
-    keeper: &K,
-) -> Result<Planned, PlannerError>
+    hooks: &RunHooks<'_, T, K>,
+) -> Result<(Instance, Proved), PlannerError>
 where
     T: Threads + Wait + time::Clock + Sync,
     K: Keeper,
     requires { AreLimited request.now.options }
-    ensures { IfOk result (HasFoundIn instance.now (option_map (λ v. v.items) start.now) request.now.options.passes) }
+    ensures found { IfOk result (λ a. HasFoundIn instance.now (option_map (λ v. v.items) start.now) request.now.options.passes a.0 a.1.planned) }
+    ensures proof { IfOk result (λ a. IfSome a.1.proof (MakesFor a.0 (Is (root_of a.0.size)) a.1.planned.permutation a.1.planned.cost a.1.planned.bound)) }
+{
+    let read = searched(system, alloc, request, instance, start, hooks)?;
+    let (problem, found) = read;
+    let root = Partial::root(alloc, problem.size())?;
+    let answer = with_proof(alloc, &problem, &root, found, hooks.pieces);
+    Ok((problem, answer))
+}
+
+/// An instance, and what its search finds, from a start if there is one.
+fn searched<T, K>(
+    system: &T,
+    alloc: Global,
+    request: &Request<'_>,
+    instance: &[u8],
+    start: &Option<Vec<u8>>,
+    hooks: &RunHooks<'_, T, K>,
+) -> Result<(Instance, Planned), PlannerError>
+where
+    T: Threads + Wait + time::Clock + Sync,
+    K: Keeper,
+    requires { AreLimited request.now.options }
+    ensures found { IfOk result (λ a. HasFoundIn instance.now (option_map (λ v. v.items) start.now) request.now.options.passes a.0 a.1) }
+    ensures proof { IfOk result (λ a. IfSome a.1.proof (ProvesOver a.0 (root_of a.0.size) a.1.permutation a.1.cost a.1.bound)) }
 {
     let mut reader = reader_of(start);
     let answer = plan_stream(
@@ -125,9 +165,9 @@ where
         &mut reader,
         &mut Counted::new(Vec::new(alloc)),
         &request.options,
-        keeper,
+        hooks,
     );
-    keeper.finish();
+    hooks.keeper.finish();
     match answer {
         Ok(answer) => Ok(answer),
         Err(error) => Err(error.in_memory()),

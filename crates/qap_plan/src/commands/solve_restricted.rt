@@ -1,12 +1,13 @@
 //! A run on a plan with costs of places or forbidden places.
 
-ghost use Rattle.std.specs.Prelude.{IfOk, option_copied};
+ghost use Rattle.std.specs.Prelude.{IfOk, IfSome, option_copied};
 ghost use Rattle.plan_charge.specs.Charges.{AreCharges};
 ghost use Rattle.plan_charge.specs.Forbidden.{AreForbidden};
 ghost use Rattle.plan_file.specs.Tables.{HasSizes};
 ghost use Rattle.qap_plan.specs.Answered.{IsAnsweredCharged, TellsAnswerCharged};
 ghost use Rattle.plan_files.specs.Begun.{IsArrangementIn, IsStartIn};
 ghost use Rattle.qap_plan.specs.ChargedAnswer.{IsChargedAnswer};
+ghost use Rattle.qap_plan.specs.Proofs.{MakesCharged};
 ghost use Rattle.plan_search.specs.Options.{AreLimited};
 ghost use Rattle.plan_files.specs.Outputs.{IsSuccess};
 
@@ -14,11 +15,13 @@ use crate::commands::charged_answer::{ChargedAnswer, ChargedProblem, charged_ans
 use crate::commands::charged_outcome::ChargedOutcome;
 use crate::commands::command_line::Request;
 use crate::commands::ending::{faulty_file, write_outputs};
+use crate::search::spooling::{RunHooks, spool_for};
 use plan_file::NamedProblem;
 use plan_files::{Misuse, PlannerError, Refusal, Sink, inputs_of, layout_in, text_in};
 use plan_input::{Loaded, Texts};
 use plan_search::Keeper;
 use plan_table::is_layout;
+use proof_spool::SharedSpool;
 use qap_cost::Perm;
 use qap_io::Status;
 use std::alloc::Global;
@@ -87,13 +90,21 @@ where
     requires forbidden { AreForbidden loaded.now.problem.instance.size loaded.now.forbidden }
     ensures { IfOk result (λ status. IsSuccess status → TellsAnswerCharged S.writes S.prints request.now loaded.now start status sink.old sink.new) }
 {
-    let answer = charged(system, alloc, request, loaded, start, keeper)?;
+    let spool = match spool_for(alloc, sink, request.proof) {
+        Ok(spool) => spool,
+        Err(status) => return Ok(status),
+    };
+    let hooks = RunHooks {
+        keeper,
+        pieces: &SharedSpool::new(system, spool),
+    };
+    let answer = charged(system, alloc, request, loaded, start, &hooks)?;
     let found = ChargedOutcome {
         loaded,
-        answer: &answer,
+        answer,
         milliseconds: keeper.now(),
     };
-    Ok(write_outputs(alloc, sink, request, &found))
+    Ok(write_outputs(alloc, sink, request, found))
 }
 
 /// What the search from a start finds, if there is one.
@@ -103,7 +114,7 @@ fn charged<T, K>(
     request: &Request<'_>,
     loaded: &Loaded,
     start: Option<Perm>,
-    keeper: &K,
+    hooks: &RunHooks<'_, T, K>,
 ) -> Result<ChargedAnswer, PlannerError>
 where
     T: Threads + Wait + time::Clock + Sync,
@@ -112,15 +123,16 @@ where
     requires sizes { HasSizes loaded.now.problem }
     requires charges { AreCharges loaded.now.problem.instance.size loaded.now.charges }
     requires forbidden { AreForbidden loaded.now.problem.instance.size loaded.now.forbidden }
-    ensures { IfOk result (IsChargedAnswer loaded.now.problem loaded.now.charges loaded.now.forbidden start) }
+    ensures answer { IfOk result (IsChargedAnswer loaded.now.problem loaded.now.charges loaded.now.forbidden start) }
+    ensures proof { IfOk result (λ a. IfSome a.proof (MakesCharged loaded.now.problem.instance loaded.now.problem.fixed loaded.now.charges loaded.now.forbidden a.planned.permutation a.planned.cost a.planned.bound)) }
 {
     let charged = ChargedProblem {
         problem: &loaded.problem,
         charges: &loaded.charges,
         forbidden: &loaded.forbidden,
     };
-    let answer = charged_answer(system, alloc, &charged, start, &request.options, keeper);
-    keeper.finish();
+    let answer = charged_answer(system, alloc, &charged, start, &request.options, hooks);
+    hooks.keeper.finish();
     answer
 }
 

@@ -1,19 +1,21 @@
 //! The subcommand `split`: its command line and its run.
 
-ghost use Rattle.std.specs.Prelude.{IfOk, IfSome, length, option_copied, string_bytes, ◌≡◌};
+ghost use Rattle.std.specs.Prelude.{IfOk, IfSome, false, length, option_copied, string_bytes, true, ◌≡◌};
 ghost use Rattle.qap_cost.specs.Objective.{Permutes};
 ghost use Rattle.plan_search.specs.Options.{AreLimited};
-ghost use Rattle.plan_files.specs.Outputs.{EndsWith, IsSuccess};
-ghost use Rattle.qap_plan.specs.PartFiles.{ArePartFiles, AreTextsOf, BeginsIn, IsFileIn, SplitsUp, TellsSplit, WritesParts, split_line, split_status};
+ghost use Rattle.plan_files.specs.Outputs.{EndsWith, IsFailure, IsSuccess};
+ghost use Rattle.qap_plan.specs.Estimates.{AreOfSize, PrintsEstimates};
+ghost use Rattle.qap_plan.specs.PartFiles.{ArePartFiles, AreTextsOf, BeginsIn, IsFileIn, SplitsUp, TellsParts, TellsSplit, WritesParts, split_line, split_status};
 ghost use Rattle.plan_files.specs.Starting.{IsSolutionIn};
 ghost use Rattle.qap_text.specs.WrittenSolution.{solution_text};
 
 use crate::commands::command_line::{ignore_rest, time_limit, with_improvement, with_start};
+use crate::commands::estimates::tell_estimates;
 use crate::commands::solve::copy_of;
 use crate::output::node_lines::lines_of_parts;
 use crate::output::proof_file::text_of_proof;
 use crate::search::splitting::{Skeleton, split_up};
-use clap::{Arg, ArgMatches, Command, value_parser};
+use clap::{Arg, ArgAction, ArgMatches, Command, value_parser};
 use plan_files::{
     Outputs, PlannerError, Refusal, Searched, Sink, bytes_in, ended, permutation_in, searched_in,
     worse,
@@ -44,6 +46,8 @@ pub struct SplitRequest<'a> {
     pub parts: u64,
     /// The folder that the files are written to.
     pub folder: &'a str,
+    /// Whether the nodes of each part are estimated.
+    pub estimate: bool,
 }
 
 /// The subcommand `split`.
@@ -85,7 +89,13 @@ pub fn split_command<'a>(alloc: Global) -> Result<Command<'a>, AllocError> {
                 .value_name("S")
                 .help("stop after this time: seconds, or minutes (2m) or hours (1h)"),
         )?
-        .arg(ignore_rest(alloc))
+        .arg(ignore_rest(alloc))?
+        .arg(
+            Arg::new(alloc, "estimate")
+                .long("estimate")
+                .action(ArgAction::SetTrue)
+                .help("estimate how many nodes the search of each part evaluates"),
+        )
 }
 
 /// The request that was found; `None` if something is missing.
@@ -107,6 +117,7 @@ pub fn split_request<'a>(found: &ArgMatches<'a>) -> Option<SplitRequest<'a>>
         },
         parts: found.get_one("parts")?,
         folder: found.get_str("out")?,
+        estimate: found.get_flag("estimate"),
     })
 }
 
@@ -155,7 +166,10 @@ where
     let options = &request.options;
     let wanted = request.parts as usize;
     match split_up(system, alloc, &searched, start, options, wanted, keeper) {
-        Ok(skeleton) => Ok(write_parts(alloc, sink, request, &names, &skeleton)),
+        Ok(skeleton) => {
+            let instance = &searched.instance;
+            Ok(tell_parts(alloc, sink, request, &names, instance, &skeleton, keeper))
+        }
         Err(error) => Err(Refusal::File(request.file, error)),
     }
 }
@@ -242,6 +256,53 @@ pub struct PartTexts {
     pub line: String,
 }
 
+/// Writes the files, and prints what is left and, if they are requested, estimates of the parts.
+fn tell_parts<S: Sink, K: Keeper>(
+    alloc: Global,
+    sink: &mut S,
+    request: &SplitRequest<'_>,
+    names: &PartFiles,
+    instance: &Instance,
+    skeleton: &Skeleton,
+    keeper: &K,
+) -> Status
+    requires permutes { Permutes instance.now skeleton.now.proof.permutation }
+    requires sizes { AreOfSize instance.now.size skeleton.now.parts.items }
+    ensures ends { IsSuccess result → result ≡ split_status (length skeleton.now.parts.items) request.now.parts }
+    ensures told { IsSuccess result → TellsParts S.writes S.prints request.now.estimate names.now skeleton.now sink.old sink.new }
+{
+    let status = write_parts(alloc, sink, request, names, skeleton);
+    if request.estimate {
+        let folder = request.folder;
+        return tell_more(alloc, sink, folder, instance, skeleton, keeper, status);
+    }
+    status
+}
+
+/// Prints estimates of the parts, if what was done before has not failed, and returns how the run ends.
+fn tell_more<S: Sink, K: Keeper>(
+    alloc: Global,
+    sink: &mut S,
+    folder: &str,
+    instance: &Instance,
+    skeleton: &Skeleton,
+    keeper: &K,
+    status: Status,
+) -> Status
+    requires permutes { Permutes instance.now skeleton.now.proof.permutation }
+    requires sizes { AreOfSize instance.now.size skeleton.now.parts.items }
+    ensures ends { IsSuccess result → result ≡ status }
+    ensures printed { IsSuccess result → PrintsEstimates S.prints true (length skeleton.now.parts.items) sink.old sink.new }
+{
+    if !succeeds(status) {
+        return status;
+    }
+    match tell_estimates(alloc, sink, folder, instance, skeleton, keeper) {
+        Ok(()) => status,
+        Err(failed) => failed,
+    }
+}
+
 /// Writes the files, prints what is left, and returns how the run ends. If a file cannot be written, nothing is printed.
 fn write_parts<S: Sink>(
     alloc: Global,
@@ -275,6 +336,13 @@ fn ending_of(request: &SplitRequest<'_>, skeleton: &Skeleton) -> Status
     } else {
         Status::Stopped
     }
+}
+
+/// Whether a run that ends so has not failed.
+fn succeeds(status: Status) -> bool
+    ensures { result ≡ false → IsFailure status }
+{
+    matches!(status, Status::Done | Status::Stopped)
 }
 
 /// Writes the three files, each independently of the others.

@@ -6,12 +6,13 @@ ghost use Rattle.plan_answer.specs.Layout.{layout_text as layout_of};
 ghost use Rattle.plan_file.specs.Tables.{HasSizes};
 ghost use Rattle.qap_cost.specs.Placement.{Completes};
 ghost use Rattle.qap_plan.specs.Outcome.{TellsPlan, status_of as status_for};
+ghost use Rattle.qap_plan.specs.Proofs.{HasSame, MakesFor, ShowsFor};
 ghost use Rattle.qap_plan.specs.Picturing.{ShowsVerdict};
 
 use crate::output::json::named_json_text;
 use crate::output::outcome::{Kind, Outcome, status_of};
 use crate::output::picturing::{drawn_of, proved_picture, report_text};
-use crate::output::proof_file::proof_text;
+use crate::output::proof_file::{AnswerProof, Proved};
 use plan_answer::{answer_text, layout_text};
 use plan_file::NamedProblem;
 use plan_files::PlannerError;
@@ -27,22 +28,25 @@ pub struct PlanOutcome<'a> {
     pub loaded: &'a Loaded,
     /// The arrangement with which the search began, if one is named.
     pub start: &'a Option<Perm>,
-    pub answer: &'a Planned,
+    pub answer: Proved,
     /// The name of the plan's file.
     pub file: &'a str,
     pub milliseconds: u64,
 }
 
 impl Outcome for PlanOutcome<'_> {
-    ghost is_sound = { λ s. HasSizes s.loaded.now.problem × Completes s.loaded.now.problem.fixed s.answer.now.permutation
-        × IfSome s.start.now (λ p. length p ≡ s.loaded.now.problem.instance.size) };
+    ghost is_sound = { λ s. HasSizes s.loaded.now.problem × Completes s.loaded.now.problem.fixed s.answer.planned.permutation
+        × IfSome s.start.now (λ p. length p ≡ s.loaded.now.problem.instance.size)
+        × IfSome s.answer.proof (MakesFor s.loaded.now.problem.instance (HasSame s.loaded.now.problem.fixed) s.answer.planned.permutation s.answer.planned.cost s.answer.planned.bound) };
 
-    ghost tells = { λ s. TellsPlan s.loaded.now.problem s.answer.now };
+    ghost tells = { λ s. TellsPlan s.loaded.now.problem s.answer.planned };
 
-    ghost ends = { λ s. status_for s.answer.now.cost s.answer.now.bound };
+    ghost proves = { λ s. ShowsFor s.loaded.now.problem.instance (HasSame s.loaded.now.problem.fixed) s.answer.planned.permutation s.answer.planned.cost s.answer.planned.bound };
+
+    ghost ends = { λ s. status_for s.answer.planned.cost s.answer.planned.bound };
 
     fn text(&self, alloc: Global, kind: Kind) -> Result<Vec<u8>, PlannerError> {
-        let (problem, answer) = (&self.loaded.problem, self.answer);
+        let (problem, answer) = (&self.loaded.problem, &self.answer.planned);
         match kind {
             Kind::Answer => words_text(alloc, problem, answer),
             Kind::Json => named_json_text(alloc, problem, answer, self.milliseconds),
@@ -52,12 +56,15 @@ impl Outcome for PlanOutcome<'_> {
                 let drawn = &drawn_of(self.loaded);
                 report_text(alloc, problem, answer, self.file, drawn, self.start)
             }
-            Kind::Proof => proof_text(alloc, answer),
         }
     }
 
     fn status(&self) -> Status {
-        status_of(self.answer.cost, self.answer.bound)
+        status_of(self.answer.planned.cost, self.answer.planned.bound)
+    }
+
+    fn into_proof(self) -> Option<AnswerProof> {
+        self.answer.proof
     }
 }
 

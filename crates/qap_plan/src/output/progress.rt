@@ -186,7 +186,7 @@ fn bar_phrase(alloc: Global, settled: Option<u64>) -> Result<String, AllocError>
     format!(in alloc; " [{full}{empty}] {percent}%")
 }
 
-/// So many cells of a bar, if it has them.
+/// A bar with this many cells, if it has any.
 fn cells(bar: &[u8], count: usize) -> &str {
     std::str::from_utf8(bar.get(..count).unwrap_or(bar)).unwrap_or("")
 }

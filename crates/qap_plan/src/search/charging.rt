@@ -5,10 +5,13 @@ ghost use Rattle.plan_charge.specs.Charges.{AreCharges};
 ghost use Rattle.plan_charge.specs.Forbidden.{AreForbidden};
 ghost use Rattle.plan_charge.specs.Restricted.{IsAllowed, IsCharged};
 ghost use Rattle.qap_cost.specs.Bijection.{IsPerm};
-ghost use Rattle.qap_plan.specs.Charging.{ProvesCharged, ShowsCharged};
+ghost use Rattle.qap_plan.specs.Proofs.{MakesCharged};
 ghost use Rattle.plan_search.specs.Options.{AreLimited};
 
+use crate::output::proof_file::{Proved, with_proof};
+use crate::search::spooling::RunHooks;
 use plan_charge::{extended_permutation, front, restricted_law};
+use plan_file::ascending;
 use plan_files::{PlannerError, Restriction, widened};
 use plan_search::{Keeper, Options, Planned, search_keeping};
 use qap_cost::{Instance, Perm};
@@ -27,8 +30,8 @@ pub fn search_restricted<T, K>(
     restriction: &Restriction<'_>,
     start: &Perm,
     options: &Options,
-    keeper: &K,
-) -> Result<Planned, PlannerError>
+    hooks: &RunHooks<'_, T, K>,
+) -> Result<Proved, PlannerError>
 where
     T: Threads + Wait + time::Clock + Sync,
     K: Keeper,
@@ -37,15 +40,15 @@ where
     requires charges { AreCharges instance.now.size restriction.now.charges.now }
     requires forbidden { AreForbidden instance.now.size restriction.now.forbidden.now }
     requires start { IsAllowed restriction.now.fixed.now restriction.now.forbidden.now start.now }
-    ensures charged { IfOk result (λ x. IsCharged instance.now restriction.now.fixed.now restriction.now.charges.now restriction.now.forbidden.now start.now x.permutation x.cost x.bound) }
-    ensures proof { IfOk result (λ x. IfSome x.proof (ProvesCharged instance.now restriction.now.fixed.now restriction.now.charges.now restriction.now.forbidden.now x.permutation x.cost x.bound)) }
-    ensures pair_proof { IfOk result (λ x. IfSome x.pair_proof (ShowsCharged instance.now restriction.now.fixed.now restriction.now.charges.now restriction.now.forbidden.now x.permutation x.cost x.bound)) }
+    ensures charged { IfOk result (λ a. IsCharged instance.now restriction.now.fixed.now restriction.now.charges.now restriction.now.forbidden.now start.now a.planned.permutation a.planned.cost a.planned.bound) }
+    ensures proof { IfOk result (λ a. IfSome a.proof (MakesCharged instance.now restriction.now.fixed.now restriction.now.charges.now restriction.now.forbidden.now a.planned.permutation a.planned.cost a.planned.bound)) }
 {
     restricted_law();
     let n = instance.size();
     let searched = widened(alloc, instance, restriction)?;
     let count = searched.instance.size() - n;
     let first = extended_permutation(start, count)?;
+    let root = ascending(alloc, &searched.node)?;
     let found = search_keeping(
         system,
         alloc,
@@ -53,10 +56,14 @@ where
         &searched.node,
         Some(first),
         options,
-        keeper,
+        hooks,
     )?;
-    let shorter = shortened(found, n)?;
-    Ok(shorter)
+    let whole = with_proof(alloc, &searched.instance, &root, found, hooks.pieces);
+    let shorter = shortened(whole.planned, n)?;
+    Ok(Proved {
+        planned: shorter,
+        proof: whole.proof,
+    })
 }
 
 /// What a search of a larger instance has found, with the first numbers of its permutation.
@@ -66,8 +73,6 @@ fn shortened(found: Planned, n: usize) -> Result<Planned, AllocError>
     ensures permutation { IfOk result (λ x. x.permutation ≡ take n found.permutation) }
     ensures cost { IfOk result (λ x. x.cost ≡ found.cost) }
     ensures bound { IfOk result (λ x. x.bound ≡ found.bound) }
-    ensures proof { IfOk result (λ x. x.proof ≡ found.proof) }
-    ensures pair_proof { IfOk result (λ x. x.pair_proof ≡ found.pair_proof) }
 {
     let permutation = front(&found.permutation, n)?;
     Ok(Planned {

@@ -1,7 +1,7 @@
 use Rattle.std.proofs.Common.{◌∙◌, ap, subst}
 use Rattle.std.specs.Prelude.{IfSome}
 use Rattle.qap_cost.specs.Placement.{Placement, root_of}
-use Rattle.plan_search.specs.Planning.{ProvesOver, ShowsOver}
+use Rattle.plan_search.specs.Planning.{ProvesOver}
 use Rattle.plan_search.proofs.Kept.{planned_of}
 use Rattle.plan_search.proofs.searching.search.Goals as goal
 
@@ -13,8 +13,3 @@ pub returns-clause-proof : goal.returns-clause-proof
 returns-clause-proof g c =
     let found = c.in_ok-found.found in
     subst (λ (x : Placement). IfSome found.proof (ProvesOver c.args.instance.now x found.permutation found.cost found.bound)) (c.in_ok-root.ensures.value ∙ ap root_of c.size.ensures.value) c.in_ok-found.ensures.proof
-
-pub returns-clause-pair_proof : goal.returns-clause-pair_proof
-returns-clause-pair_proof g c =
-    let found = c.in_ok-found.found in
-    subst (λ (x : Placement). IfSome found.pair_proof (ShowsOver c.args.instance.now x found.permutation found.cost found.bound)) (c.in_ok-root.ensures.value ∙ ap root_of c.size.ensures.value) c.in_ok-found.ensures.pair_proof

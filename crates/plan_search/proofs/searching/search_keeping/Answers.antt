@@ -1,5 +1,5 @@
 use Rattle.std.proofs.Common.{◌∙◌}
-use Rattle.plan_search.proofs.Kept.{kept_proved, kept_same, kept_shown}
+use Rattle.plan_search.proofs.Kept.{kept_proved, kept_same}
 use Rattle.plan_search.proofs.searching.search_keeping.Goals as goal
 
 pub search_root-requires-clause-root : goal.search_root-requires-clause-root
@@ -14,6 +14,3 @@ returns-clause-kept g c = kept_same c.args.instance.now c.args.fixed.now c.in_ok
 
 pub returns-clause-proof : goal.returns-clause-proof
 returns-clause-proof g c = kept_proved c.args.instance.now c.args.fixed.now c.in_ok-root.root _ _ _ _ c.in_ok-root.ensures.same c.in_ok-found.ensures.proof
-
-pub returns-clause-pair_proof : goal.returns-clause-pair_proof
-returns-clause-pair_proof g c = kept_shown c.args.instance.now c.args.fixed.now c.in_ok-root.root _ _ _ _ c.in_ok-root.ensures.same c.in_ok-found.ensures.pair_proof

@@ -17,8 +17,8 @@ returns-in_ok-advance-in-Some-clause-read g c =
     let line = c.advance.new.cursor.line.items in
     let cost = c.args.cost in
     let bound = c.in-Some.bound in
-    let a = g.R.Read.remaining c.args.reader.now in
-    let b = g.R.Read.remaining c.advance.new.reader in
+    let a = c.args.reader.now in
+    let b = c.advance.new.reader in
     let found = rw c.in-Some.is at c.in_ok-judge_bound.ensures.judged in
     let cost_is : to_z w128 (of_z w128 cost) ≡ cost = to_z-of_z w128 cost c.ranges.cost in
     let low = subst (λ (z : ℤ). IsBelow z bound) cost_is found.0 in
@@ -59,4 +59,4 @@ returns-in_ok-advance-in-Some-clause-passed g c = λ h text has.
     let is = bound_found c.args.cost bound h c.args.cursor.now.line.items c.deref.result.now _ text c.deref.ensures.value found.1 has in
     let read = c.in_ok-advance-in-Some.ensures in
     let limited = found.0.limited in
-    (reads_wide bound (omega (arith, limited)) ∙ is.0, current_next 98 _ _ text c.advance.new.cursor.line.items has.next is.1 read.read read.whole)
+    (reads_wide bound (omega (arith, limited)) ∙ is.0, current_next 98 _ _ text c.advance.new.cursor.line.items has.next is.1 read.read.consumed read.whole)

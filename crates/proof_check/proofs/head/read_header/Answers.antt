@@ -22,4 +22,4 @@ returns-in_err-judge_header-clause-refused g c =
     let e = err_from_is_err_and c.from_residual-in_err-judge_header.result c.from_residual-in_err-judge_header.ensures.1 in
     let read = c.in_ok-advance.ensures in
     rw (e.1, e.2) (λ rest known.
-    absurd ((c.in_err-judge_header.ensures {u = tt}).judged (named_read _ _ c.advance.new.cursor.line.items c.deref.result.now (codes "qapproof") (pos 2 ∷ []) rest read.read read.whole c.deref.ensures.value no_line-version (AllLimited-one (pos 2) (omega arith)) known)))
+    absurd ((c.in_err-judge_header.ensures {u = tt}).judged (named_read _ _ c.advance.new.cursor.line.items c.deref.result.now (codes "qapproof") (pos 2 ∷ []) rest read.read.consumed read.whole c.deref.ensures.value no_line-version (AllLimited-one (pos 2) (omega arith)) known)))

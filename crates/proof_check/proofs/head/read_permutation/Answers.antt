@@ -24,4 +24,4 @@ returns-in_err-perm-clause-refused g c =
     let e = err_from_is_err_and c.from_residual-in_err-perm.result c.from_residual-in_err-perm.ensures.1 in
     let read = c.in_ok-advance.ensures in
     rw (e.1, e.2) (λ p perm long rest known.
-    (c.in_err-perm.ensures {u = tt}).refused p perm long (named_read _ _ c.advance.new.cursor.line.items c.deref.result.now (codes "perm") (from_one p) rest read.read read.whole c.deref.ensures.value no_line-perm (AllLimited-permutation p perm) known))
+    (c.in_err-perm.ensures {u = tt}).refused p perm long (named_read _ _ c.advance.new.cursor.line.items c.deref.result.now (codes "perm") (from_one p) rest read.read.consumed read.whole c.deref.ensures.value no_line-perm (AllLimited-permutation p perm) known))

@@ -28,4 +28,4 @@ returns-in_ok-advance-in-Some-clause-passed g c = λ y text h.
     let found = rw c.in-Some.is at c.in_ok-judge_root.ensures.found in
     let is = root_found c.args.n c.in-Some.root y c.args.cursor.now.line.items c.deref.result.now _ text c.deref.ensures.value found.0 found.1 h in
     let read = c.in_ok-advance-in-Some.ensures in
-    (is.0, current_next 110 _ _ text c.advance.new.cursor.line.items h.next is.1 read.read read.whole)
+    (is.0, current_next 110 _ _ text c.advance.new.cursor.line.items h.next is.1 read.read.consumed read.whole)

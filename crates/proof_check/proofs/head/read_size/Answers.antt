@@ -24,4 +24,4 @@ returns-in_err-size-clause-refused g c =
     let e = err_from_is_err_and c.from_residual-in_err-size.result c.from_residual-in_err-size.ensures.1 in
     let read = c.in_ok-advance.ensures in
     rw (e.1, e.2) (λ n some small rest known.
-    absurd ((c.in_err-size.ensures {u = tt}).judged n some small (named_read _ _ c.advance.new.cursor.line.items c.deref.result.now (codes "n") (pos n ∷ []) rest read.read read.whole c.deref.ensures.value no_line-size (AllLimited-one (pos n) (omega (arith, small))) known)))
+    absurd ((c.in_err-size.ensures {u = tt}).judged n some small (named_read _ _ c.advance.new.cursor.line.items c.deref.result.now (codes "n") (pos n ∷ []) rest read.read.consumed read.whole c.deref.ensures.value no_line-size (AllLimited-one (pos n) (omega (arith, small))) known)))

@@ -4,5 +4,5 @@ use Rattle.proof_check.proofs.rows.read_rows.Given as goal
 
 abbrev pub invariant-loop : goal.invariant-loop
 invariant-loop g l =
-    HasRows l.width l.counter (lists_of l.rows.items) (g.R.Read.remaining l.fn.reader) (g.R.Read.remaining l.reader)
-    × HasPassed l.m l.counter (lists_of l.rows.items) (g.R.Read.remaining l.fn.reader) (g.R.Read.remaining l.reader)
+    HasRows l.width l.counter (lists_of l.rows.items) l.fn.reader l.reader
+    × HasPassed l.m l.counter (lists_of l.rows.items) l.fn.reader.left l.reader.left

@@ -67,7 +67,7 @@ skim_own-returns-in_err-_rows-clause-passed g t c =
     rw (p.1, p.2) (
       refused.class,
       λ rest h.
-          refused.passed h.rows.rows _ (subst (λ (m : ℕ). BeginsWithRows m h.rows.rows (g.R.Read.remaining c.args.reader.now) (tree_text (bare h.has.tree) ++ rest)) (sym m_is) (own_rows Any y line _ rest h)),
+          refused.passed h.rows.rows _ (subst (λ (m : ℕ). BeginsWithRows m h.rows.rows c.args.reader.now.left (tree_text (bare h.has.tree) ++ rest)) (sym m_is) (own_rows Any y line _ rest h)),
     )
 
 pub skim_own-returns-in_err-advance-clause-passed : goal.skim_own-returns-in_err-advance-clause-passed
@@ -92,7 +92,7 @@ skim_own-returns-clause-passed g t c =
     let read = c.in_ok-advance.ensures in
     Leaves-weaker _ _ _ c.skim_lined.result (λ rest h.
     let own = own_rows_are Any y line c.deref.result.now _ _ rest c.in-Some._scale (c.size.result - c.depth.result) (lists_of c.in_ok-_rows._rows.items) h c.deref.ensures.value c.in-Some.ensures.2 m_is c.in_ok-_rows.ensures.passed in
-    own_lined Any Any y line c.advance.new.cursor.line.items _ _ _ rest h c.requires.placement tt own.1 read.read read.whole) c.skim_lined.ensures.passed
+    own_lined Any Any y line c.advance.new.cursor.line.items _ _ _ rest h c.requires.placement tt own.1 read.read.consumed read.whole) c.skim_lined.ensures.passed
 
 pub skim_own-returns-clause-skimmed : goal.skim_own-returns-clause-skimmed
 skim_own-returns-clause-skimmed g t c = λ above.
@@ -156,7 +156,7 @@ skim_lined-skim_split-requires g t c κs within =
     let long = said.marks in
     let spent : 7 * (y.size - length y.facilities) + 4 ≡ t = c.decreases in
     let smaller : 7 * (y.size - length y.facilities) + 3 < t = omega arith in
-    (smaller, (within, (c.requires.placement, (omega (arith, long, same, whole), said.marked))))
+    (smaller, (within.0, (within.1, (c.requires.placement, (omega (arith, long, same, whole), said.marked)))))
 
 pub skim_lined-returns-in-Split-clause-passed : goal.skim_lined-returns-in-Split-clause-passed
 skim_lined-returns-in-Split-clause-passed g t c =
@@ -193,7 +193,7 @@ skim_split-returns-clause-passed g t c =
     let s = c.args.split.now in
     let opened = c.in_ok-opened.ensures in
     let own = c.in_ok-opened.opened.own in
-    let a = g.R.Read.remaining c.args.reader.now in
+    let a = c.args.reader.now.left in
     let marks_are = c.deref-3.ensures.value in
     Leaves-weaker _ _ _ c.skim_children.result (λ rest h.
     subst (λ (l : List ℕ). BeginsChildren y s.side own 0 Any l a rest) (sym marks_are) (split_children (λ _. Any) y s.side s.number own s.marks.items a rest c.requires.placement opened.place h)) c.skim_children.ensures.passed
@@ -204,9 +204,9 @@ skim_split-returns-clause-skimmed g t c =
     let s = c.args.split.now in
     let opened = c.in_ok-opened.ensures in
     let own = c.in_ok-opened.opened.own in
-    let a = g.R.Read.remaining c.args.reader.now in
+    let a = c.args.reader.now in
     let marks_are = c.deref-3.ensures.value in
-    on_ok c.skim_children.result _ _ (λ k. record { own = own; place = opened.place; skimmed = subst (λ (l : List ℕ). SkimsChildren y s.side own 0 l a (g.R.Read.remaining c.skim_children.new.reader)) marks_are k }) c.skim_children.ensures.skimmed
+    on_ok c.skim_children.result _ _ (λ k. record { own = own; place = opened.place; skimmed = subst (λ (l : List ℕ). SkimsChildren y s.side own 0 l a c.skim_children.new.reader) marks_are k }) c.skim_children.ensures.skimmed
 
 pub skim_children-loop-place-init : goal.skim_children-loop-place-init
 skim_children-loop-place-init g t c =
@@ -252,27 +252,27 @@ skim_children-returns-clause-skimmed g t c =
     let first = c.args.first in
     let place = c.loop-place.place in
     let marked = c.args.marks.now in
-    subst (λ (l : List ℕ). SkimsChildren y p.side p.own first l (g.R.Read.remaining c.args.reader.now) (g.R.Read.remaining c.loop-place.reader)) (all_marks marked place c.loop-place-test.false) c.loop-place.invariant.0
+    subst (λ (l : List ℕ). SkimsChildren y p.side p.own first l c.args.reader.now c.loop-place.reader) (all_marks marked place c.loop-place-test.false) c.loop-place.invariant.0
 
 pub skim_marked-returns-then-mark-eq43-clause-passed : goal.skim_marked-returns-then-mark-eq43-clause-passed
 skim_marked-returns-then-mark-eq43-clause-passed g t c =
     let p = c.args.split.now in
     let y = p.node.now in
-    let a = g.R.Read.remaining c.args.reader.now in
-    subst (λ (mark : ℕ). LeavesOthers y p.side p.own c.args.child mark a (g.R.Read.remaining c.skim_child.new.reader) c.skim_child.result) (sym c.if-mark-eq43.true) c.skim_child.ensures.passed
+    let a = c.args.reader.now.left in
+    subst (λ (mark : ℕ). LeavesOthers y p.side p.own c.args.child mark a c.skim_child.new.reader.left c.skim_child.result) (sym c.if-mark-eq43.true) c.skim_child.ensures.passed
 
 pub skim_marked-returns-then-mark-eq43-clause-skimmed : goal.skim_marked-returns-then-mark-eq43-clause-skimmed
 skim_marked-returns-then-mark-eq43-clause-skimmed g t c =
     let p = c.args.split.now in
     let y = p.node.now in
-    let a = g.R.Read.remaining c.args.reader.now in
-    on_ok c.skim_child.result _ _ (λ k. subst (λ (mark : ℕ). SkimsChildren y p.side p.own c.args.child (mark ∷ []) a (g.R.Read.remaining c.skim_child.new.reader)) (sym c.if-mark-eq43.true) k) c.skim_child.ensures.skimmed
+    let a = c.args.reader.now in
+    on_ok c.skim_child.result _ _ (λ k. subst (λ (mark : ℕ). SkimsChildren y p.side p.own c.args.child (mark ∷ []) a c.skim_child.new.reader) (sym c.if-mark-eq43.true) k) c.skim_child.ensures.skimmed
 
 pub skim_marked-returns-else-mark-eq43-clause-passed : goal.skim_marked-returns-else-mark-eq43-clause-passed
 skim_marked-returns-else-mark-eq43-clause-passed g t c =
     let p = c.args.split.now in
     let y = p.node.now in
-    let a = g.R.Read.remaining c.args.reader.now in
+    let a = c.args.reader.now.left in
     let is : c.args.mark ≡ 46 = elim c.requires.mark [ inl here ↦ here | inr other ↦ absurd (c.if-mark-eq43.false other) ] in
     λ more rest h.
     let here = subst (λ (mark : ℕ). BeginsChildren y p.side p.own c.args.child Any (mark ∷ more) a rest) is h in
@@ -282,7 +282,7 @@ pub skim_marked-returns-else-mark-eq43-clause-skimmed : goal.skim_marked-returns
 skim_marked-returns-else-mark-eq43-clause-skimmed g t c =
     let p = c.args.split.now in
     let y = p.node.now in
-    let a = g.R.Read.remaining c.args.reader.now in
+    let a = c.args.reader.now in
     let is : c.args.mark ≡ 46 = elim c.requires.mark [ inl here ↦ here | inr other ↦ absurd (c.if-mark-eq43.false other) ] in
     subst (λ (mark : ℕ). SkimsChildren y p.side p.own c.args.child (mark ∷ []) a a) (sym is) (SkimsChildren-closed y p.side p.own c.args.child a)
 
@@ -306,11 +306,11 @@ skim_child-returns-then-begins_image-clause-passed g t c =
     let at = c.requires.split in
     let line = c.advance.new.cursor.line.items in
     let read = c.in_ok-advance.ensures in
-    let a = g.R.Read.remaining c.args.reader.now in
+    let a = c.args.reader.now.left in
     let low = subst (λ (l : List ℕ). get_or l 0 0 ≤ 109) c.deref.ensures.value (rw c.if-begins_image.true at c.begins_image.ensures) in
     let refused = subst (λ (k : ℕ). IfErr c.skim_image.result (RefusesImage k c.args.child line)) c.size.ensures.value
     (subst (λ (l : List ℕ). IfErr c.skim_image.result (RefusesImage c.size.result c.args.child l)) c.deref-then-begins_image.ensures.value c.skim_image.ensures.refused) in
-    LeavesOthers-image y p.side p.own c.args.child line a _ c.skim_image.result at.placement at.own_in c.requires.child read.read read.whole low refused c.skim_image.ensures.class
+    LeavesOthers-image y p.side p.own c.args.child line a _ c.skim_image.result at.placement at.own_in c.requires.child read.read.consumed read.whole low refused c.skim_image.ensures.class
 
 pub skim_child-returns-then-begins_image-clause-skimmed : goal.skim_child-returns-then-begins_image-clause-skimmed
 skim_child-returns-then-begins_image-clause-skimmed g t c =
@@ -319,7 +319,7 @@ skim_child-returns-then-begins_image-clause-skimmed g t c =
     let at = c.requires.split in
     let line = c.advance.new.cursor.line.items in
     let read = c.in_ok-advance.ensures in
-    let a = g.R.Read.remaining c.args.reader.now in
+    let a = c.args.reader.now in
     on_ok c.skim_image.result _ _ (λ m. SkimsChildren-image y p.side p.own c.args.child line m.0 a _ read.read (ap (λ l. l ++ 10 ∷ []) (sym c.deref-then-begins_image.ensures.value) ∙ m.1) (subst (λ (k : ℕ). IsImageOf k c.args.child m.0) c.size.ensures.value m.2)) c.skim_image.ensures.stated
 
 pub skim_child-child_node-requires-clause-row : goal.skim_child-child_node-requires-clause-row
@@ -344,7 +344,7 @@ skim_child-skim_below-requires g t c κs within =
     let h = c.cell-h.result.0 in
     let k = c.cell-h.result.1 in
     let cell : IsCellOf p h k = record { row = omega (arith, c.cell-h.ensures.row, cell_is.row); column = omega (arith, c.cell-h.ensures.column, cell_is.column) } in
-    (smaller, (within, subst IsPlacement (sym is) (IsPlacement-cell p h k at.placement cell)))
+    (smaller, (within.0, (within.1, subst IsPlacement (sym is) (IsPlacement-cell p h k at.placement cell))))
 
 pub skim_child-returns-clause-passed : goal.skim_child-returns-clause-passed
 skim_child-returns-clause-passed g t c =
@@ -353,13 +353,13 @@ skim_child-returns-clause-passed g t c =
     let at = c.requires.split in
     let line = c.advance.new.cursor.line.items in
     let read = c.in_ok-advance.ensures in
-    let a = g.R.Read.remaining c.args.reader.now in
-    let b = g.R.Read.remaining c.advance.new.reader in
-    let d = g.R.Read.remaining c.skim_below.new.reader in
+    let a = c.args.reader.now.left in
+    let b = c.advance.new.reader.left in
+    let d = c.skim_below.new.reader.left in
     let node_is : c.in_ok-node.node ≡ child_on p.side y p.own c.args.child = c.in_ok-node.ensures ∙ ap₂ (child_at y) c.cell-h.ensures.row c.cell-h.ensures.column in
     let other = subst (λ (l : List ℕ). (get_or l 0 0 ≢ 109) × (get_or l 0 0 ≢ 103)) c.deref.ensures.value (rw c.if-begins_image.false at c.begins_image.ensures) in
     let left = subst (λ (x : Placement). Leaves (BeginsTree x true Any line b) d c.skim_below.result) node_is c.skim_below.ensures.passed in
-    LeavesOthers-tree y p.side p.own c.args.child line a b d c.skim_below.result at.placement at.own_in c.requires.child read.read read.whole other.0 other.1 left
+    LeavesOthers-tree y p.side p.own c.args.child line a b d c.skim_below.result at.placement at.own_in c.requires.child read.read.consumed read.whole other.0 other.1 left
 
 pub skim_child-returns-clause-skimmed : goal.skim_child-returns-clause-skimmed
 skim_child-returns-clause-skimmed g t c =
@@ -368,8 +368,8 @@ skim_child-returns-clause-skimmed g t c =
     let at = c.requires.split in
     let line = c.advance.new.cursor.line.items in
     let read = c.in_ok-advance.ensures in
-    let a = g.R.Read.remaining c.args.reader.now in
-    let b = g.R.Read.remaining c.advance.new.reader in
-    let d = g.R.Read.remaining c.skim_below.new.reader in
+    let a = c.args.reader.now in
+    let b = c.advance.new.reader in
+    let d = c.skim_below.new.reader in
     let node_is : c.in_ok-node.node ≡ child_on p.side y p.own c.args.child = c.in_ok-node.ensures ∙ ap₂ (child_at y) c.cell-h.ensures.row c.cell-h.ensures.column in
     on_ok c.skim_below.result _ _ (λ s. SkimsChildren-grown y p.side p.own c.args.child line a b d read.read (subst (λ (x : Placement). SkimsTree x true line b d) node_is s)) c.skim_below.ensures.skimmed

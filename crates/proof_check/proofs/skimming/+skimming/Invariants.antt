@@ -28,5 +28,5 @@ decreases-skim_child g l = 7 * free_count l.split.now.node.now
 
 abbrev pub invariant-skim_children-loop-place : goal.invariant-skim_children-loop-place
 invariant-skim_children-loop-place g l =
-    SkimsChildren l.split.node.now l.split.side l.split.own l.first (take l.place l.marks) (g.R.Read.remaining l.fn.reader) (g.R.Read.remaining l.reader)
-    × IsPassed l.split.node.now l.split.side l.split.own l.first (λ _. Any) (l.first + l.place) l.place l.marks (g.R.Read.remaining l.fn.reader) (g.R.Read.remaining l.reader)
+    SkimsChildren l.split.node.now l.split.side l.split.own l.first (take l.place l.marks) l.fn.reader l.reader
+    × IsPassed l.split.node.now l.split.side l.split.own l.first (λ _. Any) (l.first + l.place) l.place l.marks l.fn.reader.left l.reader.left

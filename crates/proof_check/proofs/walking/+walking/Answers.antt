@@ -84,7 +84,7 @@ walk_own-returns-in_err-rows-clause-passed g t c =
     rw (p.1, p.2) (
       (c.in_err-rows.ensures {u = tt}).class,
       λ rest h.
-          (c.in_err-rows.ensures {u = tt}).passed h.rows.rows _ (subst (λ (m : ℕ). BeginsWithRows m h.rows.rows (g.R.Read.remaining c.args.reader.now) (tree_text (bare h.has.tree) ++ rest)) (sym m_is) (own_rows Any y line _ rest h)),
+          (c.in_err-rows.ensures {u = tt}).passed h.rows.rows _ (subst (λ (m : ℕ). BeginsWithRows m h.rows.rows c.args.reader.now.left (tree_text (bare h.has.tree) ++ rest)) (sym m_is) (own_rows Any y line _ rest h)),
     )
 
 pub walk_own-returns-in_err-advance-clause-passed : goal.walk_own-returns-in_err-advance-clause-passed
@@ -114,7 +114,7 @@ walk_own-returns-in_err-skim_lined-clause-passed g t c =
       skimmed.0,
       λ rest h. skimmed.1 rest (
           let own = own_rows_are Any y line c.deref.result.now _ _ rest c.in-Some.scale (c.size.result - c.depth.result) (lists_of c.in_ok-rows.rows.items) h c.deref.ensures.value c.in-Some.ensures.2 m_is c.in_ok-rows.ensures.passed in
-          own_lined Any Any y line c.advance.new.cursor.line.items _ _ _ rest h c.requires.placement tt own.1 read.read read.whole),
+          own_lined Any Any y line c.advance.new.cursor.line.items _ _ _ rest h c.requires.placement tt own.1 read.read.consumed read.whole),
     )
 
 pub walk_own-returns-in_default-2-clause-passed : goal.walk_own-returns-in_default-2-clause-passed
@@ -126,7 +126,7 @@ walk_own-returns-in_default-2-clause-passed g t c =
     let read = c.in_ok-advance.ensures in
     λ rest h. c.in_ok-skim_lined.ensures.passed rest (
     let own = own_rows_are Any y line c.deref.result.now _ _ rest c.in-Some.scale (c.size.result - c.depth.result) (lists_of c.in_ok-rows.rows.items) h c.deref.ensures.value c.in-Some.ensures.2 m_is c.in_ok-rows.ensures.passed in
-    own_lined Any Any y line c.advance.new.cursor.line.items _ _ _ rest h c.requires.placement tt own.1 read.read read.whole)
+    own_lined Any Any y line c.advance.new.cursor.line.items _ _ _ rest h c.requires.placement tt own.1 read.read.consumed read.whole)
 
 pub walk_own-returns-in_default-2-clause-walked : goal.walk_own-returns-in_default-2-clause-walked
 walk_own-returns-in_default-2-clause-walked g t c = λ above.
@@ -162,7 +162,7 @@ walk_own-returns-clause-passed g t c =
     let read = c.in_ok-advance.ensures in
     Leaves-weaker _ _ _ c.walk_lined.result (λ rest h.
     let own = own_rows_are Any y line c.deref.result.now _ _ rest c.in-Some.scale (c.size.result - c.depth.result) (lists_of c.in_ok-rows.rows.items) h c.deref.ensures.value c.in-Some.ensures.2 m_is c.in_ok-rows.ensures.passed in
-    own_lined Any Any y line c.advance.new.cursor.line.items _ _ _ rest h c.requires.placement tt own.1 read.read read.whole) c.walk_lined.ensures.passed
+    own_lined Any Any y line c.advance.new.cursor.line.items _ _ _ rest h c.requires.placement tt own.1 read.read.consumed read.whole) c.walk_lined.ensures.passed
 
 pub walk_own-returns-clause-walked : goal.walk_own-returns-clause-walked
 walk_own-returns-clause-walked g t c = λ above.
@@ -189,7 +189,7 @@ walk_own-returns-clause-walked g t c = λ above.
     (λ rest h.
     let own = own_rows_are (Valid j.instance.now j.step j.bound y above) y line c.deref.result.now _ _ rest c.in-Some.scale (c.size.result - c.depth.result) (lists_of c.in_ok-rows.rows.items) h c.deref.ensures.value c.in-Some.ensures.2 m_is c.in_ok-rows.ensures.passed in
     let here : AreListed y h.rows D = subst (λ (Q : PairRows). AreListed y Q D) (sym own.0) listed in
-    own_lined (Valid j.instance.now j.step j.bound y above) (Valid I j.step j.bound y (Some (under D R))) y line next _ _ _ rest h c.requires.placement (own_valid I j.step j.bound y above D R line _ rest h c.requires.placement here c.in_ok-start.ensures.start) own.1 advanced.read advanced.whole) f) c.walk_lined.ensures.walked
+    own_lined (Valid j.instance.now j.step j.bound y above) (Valid I j.step j.bound y (Some (under D R))) y line next _ _ _ rest h c.requires.placement (own_valid I j.step j.bound y above D R line _ rest h c.requires.placement here c.in_ok-start.ensures.start) own.1 advanced.read.consumed advanced.whole) f) c.walk_lined.ensures.walked
 
 pub walk_lined-check_value-requires-clause-small : goal.walk_lined-check_value-requires-clause-small
 walk_lined-check_value-requires-clause-small g t c =
@@ -319,12 +319,15 @@ walk_lined-walk_split-requires g t c κs within =
     let smaller : 7 * (y.size - length y.facilities) + 3 < t = omega arith in (
       smaller,
       (
-        within,
+        within.0,
         (
-          c.requires.size,
+          within.1,
           (
-            c.requires.placement,
-            (c.requires.judge, (c.requires.duals_size, (c.requires.in_scale, (c.in_ok-draw-in-Split.ensures.form I D y c.requires.placement c.requires.form, (omega (arith, long, same, whole), said.marked))))),
+            c.requires.size,
+            (
+              c.requires.placement,
+              (c.requires.judge, (c.requires.duals_size, (c.requires.in_scale, (c.in_ok-draw-in-Split.ensures.form I D y c.requires.placement c.requires.form, (omega (arith, long, same, whole), said.marked))))),
+            ),
           ),
         ),
       ),
@@ -387,8 +390,8 @@ walk_split-returns-clause-passed g t c =
     let opened = c.in_ok-opened.ensures in
     let own = c.in_ok-opened.opened.own in
     Leaves-weaker _ _ _ c.walk_children.result (λ rest h.
-    subst (λ (l : List ℕ). BeginsChildren y s.side own 0 Any l (g.R.Read.remaining c.args.reader.now) rest) (sym c.deref-3.ensures.value)
-    (split_children (λ _. Any) y s.side s.number own s.marks.items (g.R.Read.remaining c.args.reader.now) rest c.requires.placement opened.place h)) c.walk_children.ensures.passed
+    subst (λ (l : List ℕ). BeginsChildren y s.side own 0 Any l c.args.reader.now.left rest) (sym c.deref-3.ensures.value)
+    (split_children (λ _. Any) y s.side s.number own s.marks.items c.args.reader.now.left rest c.requires.placement opened.place h)) c.walk_children.ensures.passed
 
 pub walk_split-returns-clause-walked : goal.walk_split-returns-clause-walked
 walk_split-returns-clause-walked g t c =
@@ -398,13 +401,13 @@ walk_split-returns-clause-walked g t c =
     let now = under c.args.duals.now c.args.form.now in
     let opened = c.in_ok-opened.ensures in
     let own = c.in_ok-opened.opened.own in
-    let a = g.R.Read.remaining c.args.reader.now in
+    let a = c.args.reader.now in
     let marks_are : c.deref-3.result.now ≡ s.marks.items = c.deref-3.ensures.value in
-    judged c.walk_children.result _ _ _ _ (λ w. record { own = own; place = opened.place; walked = subst (λ (l : List ℕ). WalksChildren j.instance.now j.step j.bound j.cost y now s.side own 0 l a (g.R.Read.remaining c.walk_children.new.reader) c.args.walk.now.leaves.items c.walk_children.new.walk.leaves.items) marks_are w })
-    (λ e f. Finds-stronger _ _ _ _ e (λ k. record { own = own; place = opened.place; skimmed = subst (λ (l : List ℕ). SkimsChildren y s.side own 0 l a (g.R.Read.remaining c.walk_children.new.reader)) marks_are k })
+    judged c.walk_children.result _ _ _ _ (λ w. record { own = own; place = opened.place; walked = subst (λ (l : List ℕ). WalksChildren j.instance.now j.step j.bound j.cost y now s.side own 0 l a c.walk_children.new.reader c.args.walk.now.leaves.items c.walk_children.new.walk.leaves.items) marks_are w })
+    (λ e f. Finds-stronger _ _ _ _ e (λ k. record { own = own; place = opened.place; skimmed = subst (λ (l : List ℕ). SkimsChildren y s.side own 0 l a c.walk_children.new.reader) marks_are k })
     (λ rest h.
-    subst (λ (l : List ℕ). HasChildren j.instance.now j.step j.bound y now s.side own 0 l a rest) (sym marks_are)
-    (split_children (λ k. AllValid j.instance.now j.step j.bound y now s.side k 0) y s.side s.number own s.marks.items a rest c.requires.placement opened.place h)) f) c.walk_children.ensures.walked
+    subst (λ (l : List ℕ). HasChildren j.instance.now j.step j.bound y now s.side own 0 l a.left rest) (sym marks_are)
+    (split_children (λ k. AllValid j.instance.now j.step j.bound y now s.side k 0) y s.side s.number own s.marks.items a.left rest c.requires.placement opened.place h)) f) c.walk_children.ensures.walked
 
 pub walk_children-loop-child-init : goal.walk_children-loop-child-init
 walk_children-loop-child-init g t c =
@@ -453,7 +456,7 @@ walk_children-returns-in_err-skim_children-clause-passed g t c =
     let others_is = others_are marked others (child + 1) refl in
     let passed = IsPassed-more y p.split.side p.split.own 0 (λ _. Any) child (child + 1) child _ marked _ _ _ refl c.loop-child-test.true refl c.loop-child.invariant.1 c.in_ok-judged.ensures.passed in
     let refused = (c.in_err-skim_children.ensures {u = tt}).passed in
-    rw (e.1, e.2) (refused.0, λ rest h. refused.1 rest (subst (λ (l : List ℕ). BeginsChildren y p.split.side p.split.own (child + 1) Any l (g.R.Read.remaining c.walk_marked.new.reader) rest) (sym others_is) (passed.each rest h)))
+    rw (e.1, e.2) (refused.0, λ rest h. refused.1 rest (subst (λ (l : List ℕ). BeginsChildren y p.split.side p.split.own (child + 1) Any l c.walk_marked.new.reader.left rest) (sym others_is) (passed.each rest h)))
 
 pub walk_children-returns-in-Some-clause-passed : goal.walk_children-returns-in-Some-clause-passed
 walk_children-returns-in-Some-clause-passed g t c =
@@ -466,7 +469,7 @@ walk_children-returns-in-Some-clause-passed g t c =
     let others = take (length marked - (child + 1)) (drop (child + 1) marked) in
     let others_is = others_are marked others (child + 1) refl in
     let passed = IsPassed-more y p.split.side p.split.own 0 (λ _. Any) child (child + 1) child _ marked _ _ _ refl c.loop-child-test.true refl c.loop-child.invariant.1 c.in_ok-judged.ensures.passed in
-    λ rest h. c.in_ok-skim_children.ensures.passed rest (subst (λ (l : List ℕ). BeginsChildren y p.split.side p.split.own (child + 1) Any l (g.R.Read.remaining c.walk_marked.new.reader) rest) (sym others_is) (passed.each rest h))
+    λ rest h. c.in_ok-skim_children.ensures.passed rest (subst (λ (l : List ℕ). BeginsChildren y p.split.side p.split.own (child + 1) Any l c.walk_marked.new.reader.left rest) (sym others_is) (passed.each rest h))
 
 pub walk_children-returns-in-Some-clause-walked : goal.walk_children-returns-in-Some-clause-walked
 walk_children-returns-in-Some-clause-walked g t c =
@@ -495,7 +498,7 @@ walk_children-returns-clause-walked g t c =
     let p = c.args.parent.now in
     let y = p.split.node.now in
     let now = under p.duals.now p.form.now in
-    subst (λ (l : List ℕ). WalksChildren j.instance.now j.step j.bound j.cost y now p.split.side p.split.own 0 l (g.R.Read.remaining c.args.reader.now) (g.R.Read.remaining c.loop-child.reader) c.args.walk.now.leaves.items c.loop-child.walk.leaves.items) (all_marks c.args.marks.now c.loop-child.child c.loop-child-test.false) c.loop-child.invariant.0
+    subst (λ (l : List ℕ). WalksChildren j.instance.now j.step j.bound j.cost y now p.split.side p.split.own 0 l c.args.reader.now c.loop-child.reader c.args.walk.now.leaves.items c.loop-child.walk.leaves.items) (all_marks c.args.marks.now c.loop-child.child c.loop-child-test.false) c.loop-child.invariant.0
 
 pub walk_marked-returns-then-mark-eq43-clause-passed : goal.walk_marked-returns-then-mark-eq43-clause-passed
 walk_marked-returns-then-mark-eq43-clause-passed g t c =
@@ -503,7 +506,7 @@ walk_marked-returns-then-mark-eq43-clause-passed g t c =
     let p = c.args.parent.now in
     let y = p.split.node.now in
     let now = under p.duals.now p.form.now in
-    subst (λ (mark : ℕ). LeavesOthers y p.split.side p.split.own c.args.child mark (g.R.Read.remaining c.args.reader.now) (g.R.Read.remaining c.walk_child.new.reader) c.walk_child.result) (sym c.if-mark-eq43.true) c.walk_child.ensures.passed
+    subst (λ (mark : ℕ). LeavesOthers y p.split.side p.split.own c.args.child mark c.args.reader.now.left c.walk_child.new.reader.left c.walk_child.result) (sym c.if-mark-eq43.true) c.walk_child.ensures.passed
 
 pub walk_marked-returns-then-mark-eq43-clause-walked : goal.walk_marked-returns-then-mark-eq43-clause-walked
 walk_marked-returns-then-mark-eq43-clause-walked g t c =
@@ -511,7 +514,7 @@ walk_marked-returns-then-mark-eq43-clause-walked g t c =
     let p = c.args.parent.now in
     let y = p.split.node.now in
     let now = under p.duals.now p.form.now in
-    subst (λ (mark : ℕ). JudgesChild j.instance.now j.step j.bound j.cost y now p.split.side p.split.own c.args.child mark (g.R.Read.remaining c.args.reader.now) (g.R.Read.remaining c.walk_child.new.reader) c.args.walk.now.leaves.items c.walk_child.new.walk.leaves.items c.walk_child.result) (sym c.if-mark-eq43.true) c.walk_child.ensures.walked
+    subst (λ (mark : ℕ). JudgesChild j.instance.now j.step j.bound j.cost y now p.split.side p.split.own c.args.child mark c.args.reader.now c.walk_child.new.reader c.args.walk.now.leaves.items c.walk_child.new.walk.leaves.items c.walk_child.result) (sym c.if-mark-eq43.true) c.walk_child.ensures.walked
 
 pub walk_marked-returns-then-closed-clause-passed : goal.walk_marked-returns-then-closed-clause-passed
 walk_marked-returns-then-closed-clause-passed g t c =
@@ -521,8 +524,8 @@ walk_marked-returns-then-closed-clause-passed g t c =
     let now = under p.duals.now p.form.now in
     let is : c.args.mark ≡ 46 = elim c.requires.mark [ inl here ↦ here | inr other ↦ absurd (c.if-mark-eq43.false other) ] in
     λ more rest h.
-    let here = subst (λ (mark : ℕ). BeginsChildren y p.split.side p.split.own c.args.child Any (mark ∷ more) (g.R.Read.remaining c.args.reader.now) rest) is h in
-    children_with _ Any y p.split.side p.split.own (c.args.child + 1) more (g.R.Read.remaining c.args.reader.now) rest (λ ts any. tt) (closed_child y p.split.side p.split.own Any c.args.child more (g.R.Read.remaining c.args.reader.now) rest here)
+    let here = subst (λ (mark : ℕ). BeginsChildren y p.split.side p.split.own c.args.child Any (mark ∷ more) c.args.reader.now.left rest) is h in
+    children_with _ Any y p.split.side p.split.own (c.args.child + 1) more c.args.reader.now.left rest (λ ts any. tt) (closed_child y p.split.side p.split.own Any c.args.child more c.args.reader.now.left rest here)
 
 pub walk_marked-returns-else-closed-clause-passed : goal.walk_marked-returns-else-closed-clause-passed
 walk_marked-returns-else-closed-clause-passed g t c =
@@ -532,8 +535,8 @@ walk_marked-returns-else-closed-clause-passed g t c =
     let now = under p.duals.now p.form.now in
     let is : c.args.mark ≡ 46 = elim c.requires.mark [ inl here ↦ here | inr other ↦ absurd (c.if-mark-eq43.false other) ] in
     λ more rest h.
-    let here = subst (λ (mark : ℕ). BeginsChildren y p.split.side p.split.own c.args.child Any (mark ∷ more) (g.R.Read.remaining c.args.reader.now) rest) is h in
-    children_with _ Any y p.split.side p.split.own (c.args.child + 1) more (g.R.Read.remaining c.args.reader.now) rest (λ ts any. tt) (closed_child y p.split.side p.split.own Any c.args.child more (g.R.Read.remaining c.args.reader.now) rest here)
+    let here = subst (λ (mark : ℕ). BeginsChildren y p.split.side p.split.own c.args.child Any (mark ∷ more) c.args.reader.now.left rest) is h in
+    children_with _ Any y p.split.side p.split.own (c.args.child + 1) more c.args.reader.now.left rest (λ ts any. tt) (closed_child y p.split.side p.split.own Any c.args.child more c.args.reader.now.left rest here)
 
 pub walk_marked-returns-then-closed-clause-walked : goal.walk_marked-returns-then-closed-clause-walked
 walk_marked-returns-then-closed-clause-walked g t c =
@@ -543,8 +546,8 @@ walk_marked-returns-then-closed-clause-walked g t c =
     let now = under p.duals.now p.form.now in
     let is : c.args.mark ≡ 46 = elim c.requires.mark [ inl here ↦ here | inr other ↦ absurd (c.if-mark-eq43.false other) ] in
     let pushed = rw c.if-closed.true at c.in_ok-closed.ensures in
-    let a = g.R.Read.remaining c.args.reader.now in
-    subst (λ (mark : ℕ). WalksChildren j.instance.now j.step j.bound j.cost y now p.split.side p.split.own c.args.child (mark ∷ []) a a c.args.walk.now.leaves.items c.check_closed.new.leaves.items × PassesOthers j.instance.now j.step j.bound y now p.split.side p.split.own c.args.child mark a a) (sym is)
+    let a = c.args.reader.now in
+    subst (λ (mark : ℕ). WalksChildren j.instance.now j.step j.bound j.cost y now p.split.side p.split.own c.args.child (mark ∷ []) a a c.args.walk.now.leaves.items c.check_closed.new.leaves.items × PassesOthers j.instance.now j.step j.bound y now p.split.side p.split.own c.args.child mark a.left a.left) (sym is)
     (closed_sound j.instance.now j.step j.bound j.cost y now p.split.side p.split.own c.args.child a _ _ pushed)
 
 pub walk_marked-returns-else-closed-clause-walked : goal.walk_marked-returns-else-closed-clause-walked
@@ -555,8 +558,8 @@ walk_marked-returns-else-closed-clause-walked g t c =
     let now = under p.duals.now p.form.now in
     let is : c.args.mark ≡ 46 = elim c.requires.mark [ inl here ↦ here | inr other ↦ absurd (c.if-mark-eq43.false other) ] in
     let low = rw c.if-closed.false at c.in_ok-closed.ensures in
-    let a = g.R.Read.remaining c.args.reader.now in
-    subst (λ (mark : ℕ). Finds (SkimsChildren y p.split.side p.split.own c.args.child (mark ∷ []) a a) (HasOthers j.instance.now j.step j.bound y now p.split.side p.split.own c.args.child mark a) (CutTooLow c.args.parent.now.line)) (sym is)
+    let a = c.args.reader.now in
+    subst (λ (mark : ℕ). Finds (SkimsChildren y p.split.side p.split.own c.args.child (mark ∷ []) a a) (HasOthers j.instance.now j.step j.bound y now p.split.side p.split.own c.args.child mark a.left) (CutTooLow c.args.parent.now.line)) (sym is)
     (closed_found j.instance.now j.step j.bound j.cost y now p.split.side p.split.own c.args.child a (CutTooLow c.args.parent.now.line) refl low)
 
 pub walk_child-child_node-requires-clause-row : goal.walk_child-child_node-requires-clause-row
@@ -590,20 +593,23 @@ walk_child-walk_below-requires g t c κs within =
     let parent = c.requires.parent in (
       smaller,
       (
-        within,
+        within.0,
         (
-          parent.size ∙ sym size,
+          within.1,
           (
-            subst IsPlacement (sym is) (IsPlacement-cell p h k parent.placement cell),
+            parent.size ∙ sym size,
             (
-              c.requires.judge,
+              subst IsPlacement (sym is) (IsPlacement-cell p h k parent.placement cell),
               (
-                parent.duals_size ∙ sym size,
+                c.requires.judge,
                 (
-                  parent.in_scale,
+                  parent.duals_size ∙ sym size,
                   (
-                    subst (λ (x : Placement). IsFormOf c.args.judge.now.instance.now q.duals.now x c.child.new.child) (sym is) (c.in_ok-child.ensures.form p parent.placement parent.form),
-                    c.in_ok-child.ensures.child.is_lined,
+                    parent.in_scale,
+                    (
+                      subst (λ (x : Placement). IsFormOf c.args.judge.now.instance.now q.duals.now x c.child.new.child) (sym is) (c.in_ok-child.ensures.form p parent.placement parent.form),
+                      c.in_ok-child.ensures.child.is_lined,
+                    ),
                   ),
                 ),
               ),
@@ -638,7 +644,7 @@ walk_child-returns-then-begins_image-clause-passed g t c =
     let line = c.advance.new.cursor.line.items in
     let read = c.in_ok-advance.ensures in
     let low = subst (λ (l : List ℕ). get_or l 0 0 ≤ 109) c.deref.ensures.value (rw c.if-begins_image.true at c.begins_image.ensures) in
-    LeavesOthers-image y p.split.side p.split.own c.args.child line (g.R.Read.remaining c.args.reader.now) _ c.image_fault.result parent.placement parent.own_in c.requires.child read.read read.whole low c.image_fault.ensures.refused c.image_fault.ensures.class
+    LeavesOthers-image y p.split.side p.split.own c.args.child line c.args.reader.now.left _ c.image_fault.result parent.placement parent.own_in c.requires.child read.read.consumed read.whole low c.image_fault.ensures.refused c.image_fault.ensures.class
 
 pub walk_child-returns-then-begins_image-clause-walked : goal.walk_child-returns-then-begins_image-clause-walked
 walk_child-returns-then-begins_image-clause-walked g t c =
@@ -652,7 +658,7 @@ walk_child-returns-then-begins_image-clause-walked g t c =
     let line = c.advance.new.cursor.line.items in
     let read = c.in_ok-advance.ensures in
     let low = subst (λ (l : List ℕ). get_or l 0 0 ≤ 109) c.deref.ensures.value (rw c.if-begins_image.true at c.begins_image.ensures) in
-    image_judged I j.step j.bound j.cost y now p.split.side p.split.own c.args.child line (g.R.Read.remaining c.args.reader.now) _ _ c.image_fault.result parent.placement parent.own_in c.requires.child read.read read.whole low c.image_fault.ensures.judged
+    image_judged I j.step j.bound j.cost y now p.split.side p.split.own c.args.child line c.args.reader.now _ _ c.image_fault.result parent.placement parent.own_in c.requires.child read.read read.whole low c.image_fault.ensures.judged
 
 pub walk_child-returns-clause-passed : goal.walk_child-returns-clause-passed
 walk_child-returns-clause-passed g t c =
@@ -668,13 +674,13 @@ walk_child-returns-clause-passed g t c =
     let R = c.child.new.child in
     let row = row_of p.split.side p.split.own c.args.child in
     let column = column_of p.split.side p.split.own c.args.child in
-    let a = g.R.Read.remaining c.args.reader.now in
-    let b = g.R.Read.remaining c.advance.new.reader in
-    let d = g.R.Read.remaining c.walk_below.new.reader in
+    let a = c.args.reader.now.left in
+    let b = c.advance.new.reader.left in
+    let d = c.walk_below.new.reader.left in
     let node_is : c.in_ok-node.node ≡ child_on p.split.side y p.split.own c.args.child = c.in_ok-node.ensures ∙ ap₂ (child_at y) c.cell-h.ensures.row c.cell-h.ensures.column in
     let other = subst (λ (l : List ℕ). (get_or l 0 0 ≢ 109) × (get_or l 0 0 ≢ 103)) c.deref.ensures.value (rw c.if-begins_image.false at c.begins_image.ensures) in
     let left = subst (λ (x : Placement). Leaves (BeginsTree x true Any line b) d c.walk_below.result) node_is c.walk_below.ensures.passed in
-    LeavesOthers-tree y p.split.side p.split.own c.args.child line a b d c.walk_below.result parent.placement parent.own_in c.requires.child read.read read.whole other.0 other.1 left
+    LeavesOthers-tree y p.split.side p.split.own c.args.child line a b d c.walk_below.result parent.placement parent.own_in c.requires.child read.read.consumed read.whole other.0 other.1 left
 
 pub walk_child-returns-clause-walked : goal.walk_child-returns-clause-walked
 walk_child-returns-clause-walked g t c =
@@ -690,15 +696,15 @@ walk_child-returns-clause-walked g t c =
     let R = c.child.new.child in
     let row = row_of p.split.side p.split.own c.args.child in
     let column = column_of p.split.side p.split.own c.args.child in
-    let a = g.R.Read.remaining c.args.reader.now in
-    let b = g.R.Read.remaining c.advance.new.reader in
-    let d = g.R.Read.remaining c.walk_below.new.reader in
+    let a = c.args.reader.now in
+    let b = c.advance.new.reader in
+    let d = c.walk_below.new.reader in
     let node_is : c.in_ok-node.node ≡ child_on p.split.side y p.split.own c.args.child = c.in_ok-node.ensures ∙ ap₂ (child_at y) c.cell-h.ensures.row c.cell-h.ensures.column in
     let other = subst (λ (l : List ℕ). (get_or l 0 0 ≢ 109) × (get_or l 0 0 ≢ 103)) c.deref.ensures.value (rw c.if-begins_image.false at c.begins_image.ensures) in
-    let left = subst (λ (x : Placement). Leaves (BeginsTree x true Any line b) d c.walk_below.result) node_is c.walk_below.ensures.passed in
+    let left = subst (λ (x : Placement). Leaves (BeginsTree x true Any line b.left) d.left c.walk_below.result) node_is c.walk_below.ensures.passed in
     let before = c.args.walk.now.leaves.items in
     let after = c.walk_below.new.walk.leaves.items in
     let child : IsChild I D p.form.now row column R =
     subst (λ (k : ℕ). IsChild I D p.form.now k column R) c.cell-h.ensures.row (subst (λ (k : ℕ). IsChild I D p.form.now c.cell-h.result.0 k R) c.cell-h.ensures.column c.in_ok-child.ensures.child) in
-    let walked = subst (λ (x : Placement). Judges (WalksTree I j.step j.bound j.cost x (Some (under D R)) line b d before after) (Finds (SkimsTree x true line b d) (HasTree I j.step j.bound x (Some (under D R)) line b)) c.walk_below.result) node_is c.walk_below.ensures.walked in
+    let walked = subst (λ (x : Placement). Judges (WalksTree I j.step j.bound j.cost x (Some (under D R)) line b d before after) (Finds (SkimsTree x true line b d) (HasTree I j.step j.bound x (Some (under D R)) line b.left)) c.walk_below.result) node_is c.walk_below.ensures.walked in
     tree_judged I j.step j.bound j.cost y now p.split.side p.split.own c.args.child R line a b d before after c.walk_below.result parent.placement parent.own_in c.requires.child (free_is I D y p.form.now parent.placement parent.form) read.read read.whole other.0 other.1 child left walked

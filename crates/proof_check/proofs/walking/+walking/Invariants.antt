@@ -29,6 +29,6 @@ decreases-walk_child g l = 7 * free_count l.parent.now.split.node.now
 
 abbrev pub invariant-walk_children-loop-child : goal.invariant-walk_children-loop-child
 invariant-walk_children-loop-child g l =
-    WalksChildren l.judge.instance.now l.judge.step l.judge.bound l.judge.cost l.parent.split.node.now (under l.parent.duals.now l.parent.form.now) l.parent.split.side l.parent.split.own 0 (take l.child l.marks) (g.R.Read.remaining l.fn.reader) (g.R.Read.remaining l.reader) l.fn.walk.leaves.items l.walk.leaves.items
-    × IsPassed l.parent.split.node.now l.parent.split.side l.parent.split.own 0 (λ _. Any) l.child l.child l.marks (g.R.Read.remaining l.fn.reader) (g.R.Read.remaining l.reader)
-    × IsPassed l.parent.split.node.now l.parent.split.side l.parent.split.own 0 (AllValid l.judge.instance.now l.judge.step l.judge.bound l.parent.split.node.now (under l.parent.duals.now l.parent.form.now) l.parent.split.side l.parent.split.own) l.child l.child l.marks (g.R.Read.remaining l.fn.reader) (g.R.Read.remaining l.reader)
+    WalksChildren l.judge.instance.now l.judge.step l.judge.bound l.judge.cost l.parent.split.node.now (under l.parent.duals.now l.parent.form.now) l.parent.split.side l.parent.split.own 0 (take l.child l.marks) l.fn.reader l.reader l.fn.walk.leaves.items l.walk.leaves.items
+    × IsPassed l.parent.split.node.now l.parent.split.side l.parent.split.own 0 (λ _. Any) l.child l.child l.marks l.fn.reader.left l.reader.left
+    × IsPassed l.parent.split.node.now l.parent.split.side l.parent.split.own 0 (AllValid l.judge.instance.now l.judge.step l.judge.bound l.parent.split.node.now (under l.parent.duals.now l.parent.form.now) l.parent.split.side l.parent.split.own) l.child l.child l.marks l.fn.reader.left l.reader.left

@@ -1,33 +1,54 @@
 use Rattle.std.proofs.Common.{◌<◌, refl, sym, ◌∙◌, subst, arith}
 use Rattle.std.proofs.lemmas.Int.{ints}
 use Rattle.qap_cost.specs.Placement.{Placement}
-use Rattle.qap_symmetry.specs.declared.table.Table.{Table}
 use Rattle.pair_duals.specs.Reduced.{count_of}
-use Rattle.subtree_search.specs.Images.{IsImage}
+use Rattle.subtree_search.specs.Evaluated.{IsSkipped}
 use Rattle.subtree_search.specs.Lines.{child_on, column_on, row_on}
 use Rattle.subtree_search.specs.Opens.{Becomes}
 use Rattle.subtree_search.specs.Premises.{IsNode}
 use Rattle.subtree_search.proofs.Needing.{All-tried}
-use Rattle.subtree_search.proofs.Settling.{All-add, IsSettled-add, IsSettled-child, IsSettled-image, settled_all, settled_more}
+use Rattle.subtree_search.proofs.Settling.{All-add, IsSettled-add, IsSettled-child, IsSettled-skipped, settled_all, settled_more}
 use Rattle.subtree_search.proofs.split.split_children.Goals as goal
 
-pub loop-k-preserved-then-is_image : goal.loop-k-preserved-then-is_image
-loop-k-preserved-then-is_image g c =
+pub number_of-number-requires-clause-node : goal.number_of-number-requires-clause-node
+number_of-number-requires-clause-node g c =
+    subst (λ (z : Placement). IsNode c.args.task.now.ground.now.instance.now c.args.task.now.ground.now.duals.now c.args.task.now.ground.now.step z c.args.level.now.form) (sym c.in_ok-line.ensures.path) c.requires.node
+
+pub skip-requires : goal.skip-requires
+skip-requires g c =
     let I = c.args.task.now.ground.now.instance.now in
+    let D = c.args.task.now.ground.now.duals.now in
+    let s = c.args.task.now.ground.now.step in
+    let R = c.args.level.now.form in
+    let kept = c.loop-k.invariant in
+    record {
+      node = subst (λ (z : Placement). IsNode I D s z R) (sym kept.path) c.requires.node;
+      incumbent = kept.incumbent;
+      line = c.in_ok-line.ensures.line;
+      k_in = omega (arith, c.loop-k-test.true, c.free-k-end.ensures.value);
+      symmetries = c.requires.symmetries;
+    }
+
+pub loop-k-preserved-then-branch : goal.loop-k-preserved-then-branch
+loop-k-preserved-then-branch g c =
+    let I = c.args.task.now.ground.now.instance.now in
+    let D = c.args.task.now.ground.now.duals.now in
     let y = c.args.path.now in
     let R = c.args.level.now.form in
     let line = c.in_ok-line.line in
     let kept = c.loop-k.invariant in
-    let below : c.loop-k.k < count_of R = omega (arith, c.loop-k-test.true, c.free-k-end.ensures.value) in
-    let image = subst (λ (t : Table). IsImage I y t c.loop-k.k) c.table.ensures (subst (λ (z : Placement). IsImage I z c.table.result c.loop-k.k) kept.path (c.if-is_image.ensures refl)) in
+    let k = c.loop-k.k in
+    let cost = c.loop-k.incumbent.cost in
+    let below : k < count_of R = omega (arith, c.loop-k-test.true, c.free-k-end.ensures.value) in
+    let skipped = subst (λ (z : Placement). IsSkipped I D z R line k cost) kept.path (c.in_ok-skip.ensures.pruned_or_symmetric c.if-branch.true) in
     record {
       incumbent = kept.incumbent;
       no_worse = kept.no_worse;
       path = kept.path;
       opened = kept.opened;
       needed = kept.needed;
-      settled = settled_more I y line c.loop-k.incumbent.cost c.loop-k.children.items c.loop-k.k kept.settled
-          (IsSettled-image I c.args.task.now.ground.now.duals.now c.args.task.now.ground.now.step y R line c.loop-k.k c.loop-k.incumbent.cost c.loop-k.children.items c.requires.node c.in_ok-line.ensures.line below image kept.settled);
+      settled = settled_more I y line cost c.loop-k.children.items k kept.settled
+          (IsSettled-skipped I D c.args.task.now.ground.now.step y R line k cost c.loop-k.children.items c.requires.node c.requires.least c.in_ok-line.ensures.line below skipped kept.settled);
     }
 
 pub loop-k-preserved : goal.loop-k-preserved
@@ -64,9 +85,9 @@ child_left-requires g c =
     let below : c.loop-k.k < count_of R = omega (arith, c.loop-k-test.true, c.free-k-end.ensures.value) in
     record {
       node = subst (λ (z : Placement). IsNode I D s z R) (sym kept.path) c.requires.node;
-      least = c.requires.least;
       line = c.in_ok-line.ensures.line;
       k_in = below;
+      kept = c.in_ok-skip.ensures.kept c.if-branch.false;
       room = omega (arith, c.requires.room, c.loop-k.auto.deeper);
       symmetries = c.requires.symmetries;
       incumbent = kept.incumbent;

@@ -14,5 +14,5 @@ invariant-loop-k g l = record {
   path : l.path ≡ l.fn.path;
   opened : All (IsOpen l.task.ground.now.instance.now l.task.ground.now.duals.now.scale l.fn.path) l.children.items;
   needed : All (NeedsTrial l.task.ground.now.instance.now l.task.ground.now.duals.now l.task.ground.now.step l.fn.path l.incumbent.cost l.fn.incumbent.cost) l.children.items;
-  settled : (k : ℕ) → k < l.k → IsSettled l.task.ground.now.instance.now l.fn.path l.incumbent.cost l.children.items (child_on l.fn.path l.line k);
+  settled : (k : ℕ) → k < l.k → IsSettled l.task.ground.now.instance.now l.fn.path l.incumbent.cost l.children.items (child_on l.fn.path l.split.line k);
 }

@@ -4,8 +4,8 @@ use Rattle.std.proofs.lemmas.Result.{err_from_is_err_and}
 use Rattle.qap_io.specs.Writing.{BreaksOff}
 use Rattle.qap_plan.proofs.commands.answering.plan_stream.Goals as goal
 
-pub returns-in_err-send : goal.returns-in_err-send
-returns-in_err-send g c =
+pub returns-in_err-send-clause-answered : goal.returns-in_err-send-clause-answered
+returns-in_err-send-clause-answered g c =
     let found = c.in_ok-found.found in
     let cost : to_z w128 (of_z w128 found.cost) ≡ found.cost = search rules in
     let bound : to_z w128 (of_z w128 found.bound) ≡ found.bound = search rules in
@@ -15,8 +15,9 @@ returns-in_err-send g c =
     rw (p.1, p.2) (inr (
       refl,
       record {
+        problem = c.in_ok-instance.instance;
         answer = found;
-        comes = record { problem = c.in_ok-instance.instance; input = c.in_ok-instance.ensures; start = c.in_ok-start.start; begins = c.in_ok-start.ensures.read; planned = c.in_ok-found.ensures.planned };
+        comes = record { input = c.in_ok-instance.ensures; start = c.in_ok-start.start; begins = c.in_ok-start.ensures.read; planned = c.in_ok-found.ensures.planned };
         broken = rw (cost, bound) at broken;
       },
     ))

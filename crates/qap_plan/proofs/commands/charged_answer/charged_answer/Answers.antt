@@ -4,9 +4,9 @@ use Rattle.std.specs.Prelude.{FitsSigned}
 use Rattle.std.proofs.lemmas.Int.{to_z-of_z}
 use Rattle.qap_plan.proofs.commands.charged_answer.charged_answer.Goals as goal
 
-pub returns : goal.returns
-returns g c =
-    let found = c.in_ok-found.found in
+pub returns-clause-answer : goal.returns-clause-answer
+returns-clause-answer g c =
+    let found = c.in_ok-found.found.planned in
     let cost : FitsSigned w128 found.cost = search rules in
     let bound : FitsSigned w128 found.bound = search rules in
     record {

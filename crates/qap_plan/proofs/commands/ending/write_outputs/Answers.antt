@@ -23,12 +23,12 @@ returns-clause-ends g c = λ success.
     let table = is_done c.write_file-table.result _ c.write_file-table.ensures (omega (arith, success, rest, texts, tables, fourth)) in
     let picture = is_done c.write_file-picture.result _ c.write_file-picture.ensures (omega (arith, success, rest, others, drawn, fifth)) in
     let report = is_done c.write_file-report.result _ c.write_file-report.ensures (omega (arith, success, rest, others, drawn, sixth)) in
-    let proof = is_done c.write_file-proof.result _ c.write_file-proof.ensures (omega (arith, success, rest, others, last)) in
+    let proof = is_done c.write_proof-proof.result _ c.write_proof-proof.ensures (omega (arith, success, rest, others, last)) in
     let two = both_done c.print_answer-printed.result c.write_file-answer.result c.worse.result c.worse.ensures.one printed answer in
     let four = both_done c.write_file-json.result c.write_file-table.result c.worse-2.result c.worse-2.ensures.one json table in
     let six = both_done c.write_file-picture.result c.write_file-report.result c.worse-3.result c.worse-3.ensures.one picture report in
     let some = both_done c.worse.result c.worse-2.result c.worse-texts.result c.worse-texts.ensures.one two four in
-    let more = both_done c.worse-3.result c.write_file-proof.result c.worse-others.result c.worse-others.ensures.one six proof in
+    let more = both_done c.worse-3.result c.write_proof-proof.result c.worse-others.result c.worse-others.ensures.one six proof in
     let all = both_done c.worse-texts.result c.worse-others.result c.worse-4.result c.worse-4.ensures.one some more in
     ends_so c.status-ends.result c.worse-4.result c.worse-5.result c.worse-5.ensures.one c.worse-5.ensures.left all ∙ c.status-ends.ensures.ends
 
@@ -60,5 +60,5 @@ returns-clause-written g c = λ success.
       to_csv = done_of c.write_file-table.result _ c.write_file-table.ensures (omega (arith, success, rest, texts, tables, fourth));
       to_svg = done_of c.write_file-picture.result _ c.write_file-picture.ensures (omega (arith, success, rest, others, drawn, fifth));
       to_report = done_of c.write_file-report.result _ c.write_file-report.ensures (omega (arith, success, rest, others, drawn, sixth));
-      to_proof = done_of c.write_file-proof.result _ c.write_file-proof.ensures (omega (arith, success, rest, others, last));
+      to_proof = done_of c.write_proof-proof.result _ c.write_proof-proof.ensures (omega (arith, success, rest, others, last));
     }

@@ -1,5 +1,5 @@
 use Rattle.std.proofs.Common.{rules, subst}
-use Rattle.qap_plan.specs.PartFiles.{TellsSplit}
+use Rattle.qap_plan.specs.PartFiles.{TellsParts}
 use Rattle.qap_plan.proofs.commands.split.split.Goals as goal
 
 pub returns-in-Ok-split_up : goal.returns-in-Ok-split_up
@@ -13,7 +13,7 @@ returns-in-Ok-split_up g c = λ success. record {
   splits = record {
     skeleton = c.in-Ok-split_up.skeleton;
     split = c.in-Ok-split_up.ensures;
-    tells = subst (λ s. TellsSplit g.S.Sink.writes g.S.Sink.prints c.in-Ok.names c.in-Ok-split_up.skeleton s c.write_parts.new.sink) c.in_default-open.ensures.opened (c.write_parts.ensures.told success);
-    ends = c.write_parts.ensures.ends success;
+    tells = subst (λ s. TellsParts g.S.Sink.writes g.S.Sink.prints c.args.request.now.estimate c.in-Ok.names c.in-Ok-split_up.skeleton s c.tell_parts.new.sink) c.in_default-open.ensures.opened (c.tell_parts.ensures.told success);
+    ends = c.tell_parts.ensures.ends success;
   };
 }

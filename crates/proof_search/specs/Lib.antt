@@ -1,4 +1,0 @@
-pub mod Crew
-pub mod Found
-pub mod Ground
-pub mod Held
