@@ -6,13 +6,13 @@ use Rattle.std.proofs.lemmas.Int.{ints}
 use Rattle.std.proofs.lemmas.List.Elements.{All-append, All-cons, All-head, All-nil, All-tail}
 use Rattle.std.proofs.lemmas.List.Sums.{sum_by-append, sum_by-cons}
 use Rattle.qap_cost.specs.Instance.{Problem}
-use Rattle.qap_cost.specs.Placement.{Placement}
+use Rattle.qap_cost.specs.Placement.{IsPlacement, Placement}
 use Rattle.shared_space.specs.Law.{Content, IsKept, IsUnordered}
 use Rattle.space_txn.specs.Content.{SameItems}
-use Rattle.subtree_search.specs.Best.{Best}
+use Rattle.subtree_search.specs.Best.{Best, IsIncumbent}
 use Rattle.subtree_search.specs.Closed.{IsClosed}
 use Rattle.tuple_match.specs.FieldValue.{FieldValue}
-use Rattle.part_search.specs.Covers.{HasValue, IsAbove, IsCovered}
+use Rattle.part_search.specs.Covers.{AreLeft, HasValue, IsAbove, IsCovered}
 use Rattle.part_search.specs.Law.{IsLawOf, IsPart, IsSearched, Part}
 use Rattle.part_search.specs.Replacement.{MayReplace}
 use Rattle.part_search.specs.Tuples.{OpenNode, best_tuple, node_tuple}
@@ -129,24 +129,6 @@ replacement S gone kept added rest m h =
       covers = covers_on I S.root h.best.cost m.new.cost p.front p.back m.opens p.one less (subst (IsCovered I S.root h.best.cost) p.are h.covers) covered;
     }
 
--- the root with a value that bounds it, and the start, satisfy the law
-pub opening : (S : Part) (value : ℤ) → IsPart S → IsClosed S.instance S.root value → IsSearched S (node_tuple (record { node = S.root; value = value }) ∷ best_tuple S.start ∷ [])
-opening S value h closed =
-    let o : OpenNode = record { node = S.root; value = value } in
-    record {
-      best = S.start;
-      opens = o ∷ [];
-      tuples = λ f. omega arith;
-      incumbent = h.start;
-      no_worse = omega (arith, ints);
-      values = All-cons (HasValue S.instance S.start.cost) o [] (record {
-        placement = h.root;
-        same_size = h.same_size;
-        bounded = λ g below _. record { least = λ p done. let least = closed.least p done in omega (arith, ints, below, least) };
-      }) (All-nil (HasValue S.instance S.start.cost));
-      covers = record { below = λ g under all. All-head (IsAbove S.instance g) o [] all };
-    }
-
 -- the law does not depend on the order of the tuples
 pub reordered : (S : Part) (content other : Content) → SameItems content other → IsSearched S content → IsSearched S other
 reordered S content other same h = record {
@@ -158,6 +140,44 @@ reordered S content other same h = record {
   values = h.values;
   covers = h.covers;
 }
+
+-- a root remains to be searched, with a value that bounds it
+pub left_root : (I : Problem) (x : Placement) (value c : ℤ) → IsPlacement x → x.size ≡ I.size → IsClosed I x value → AreLeft I x c (record { node = x; value = value } ∷ [])
+left_root I x value c placement size closed =
+    let o : OpenNode = record { node = x; value = value } in
+    record {
+      values = All-cons (HasValue I c) o [] (record {
+        placement = placement;
+        same_size = size;
+        bounded = λ g below _. record { least = λ p done. let least = closed.least p done in omega (arith, ints, below, least) };
+      }) (All-nil (HasValue I c));
+      covers = record { below = λ g under all. All-head (IsAbove I g) o [] all };
+    }
+
+-- what remains is enough for a better incumbent
+pub left_better : (I : Problem) (x : Placement) (c d : ℤ) (opens : List OpenNode) → d ≤ℤ c → AreLeft I x c opens → AreLeft I x d opens
+left_better I x c d opens less h = record {
+  values = λ k o below. HasValue-lower I c d _ less (h.values k o below);
+  covers = record { below = λ g under all. h.covers.below g (omega (arith, ints, less, under)) all };
+}
+
+-- what remains, and the start, satisfy the law
+pub opening_left : (S : Part) (opens : List OpenNode) → IsIncumbent S.instance S.start → AreLeft S.instance S.root S.start.cost opens → IsSearched S (best_tuple S.start ∷ map node_tuple opens)
+opening_left S opens start h = record {
+  best = S.start;
+  opens = opens;
+  tuples = λ f. refl;
+  incumbent = start;
+  no_worse = omega (arith, ints);
+  values = h.values;
+  covers = h.covers;
+}
+
+-- likewise the root with a value that bounds it
+pub opening : (S : Part) (value : ℤ) → IsPart S → IsClosed S.instance S.root value → IsSearched S (node_tuple (record { node = S.root; value = value }) ∷ best_tuple S.start ∷ [])
+opening S value h closed =
+    reordered S (best_tuple S.start ∷ node_tuple (record { node = S.root; value = value }) ∷ []) _ (λ f. omega arith)
+    (opening_left S (record { node = S.root; value = value } ∷ []) h.start (left_root S.instance S.root value S.start.cost h.root h.same_size closed))
 
 -- as the law of a space
 pub searched_unordered : (S : Part) → IsUnordered (λ content commits. IsSearched S content)

@@ -18,3 +18,8 @@ pub record HasValue (I : Problem) (c : ℤ) (o : OpenNode) : Type 0 where
   pub placement : IsPlacement o.node
   pub same_size : o.node.size ≡ I.size
   pub bounded : (g : ℤ) → g ≤ℤ o.value → g ≤ℤ c → IsAbove I g o
+
+-- what remains to be searched below x when the incumbent costs c: open nodes that cover x, each with its value
+pub record AreLeft (I : Problem) (x : Placement) (c : ℤ) (opens : List OpenNode) : Type 0 where
+  pub values : All (HasValue I c) opens
+  pub covers : IsCovered I x c opens

@@ -86,6 +86,15 @@ impl Board {
         }
     }
 
+    /// With these open nodes on it.
+    pub(crate) fn with_all(alloc: Global, opens: &[Open]) -> Result<Board, AllocError> {
+        let mut board = Board::new(alloc);
+        for open_node in opens {
+            board.add(Wanted::new(alloc, open_node)?)?;
+        }
+        Ok(board)
+    }
+
     /// Puts an open node on it.
     pub(crate) fn add(&mut self, wanted: Wanted) -> Result<(), AllocError> {
         self.last = self.last.wrapping_add(1);

@@ -1,18 +1,31 @@
 //! Why the tuples of a search preserve its law, and what they prove about its root.
 
-ghost use Rattle.std.specs.Prelude.{◌≡◌, ◌≤ℤ◌, ◌++◌, ◌∷◌, [], ℤ, Contains};
+ghost use Rattle.std.specs.Prelude.{◌≡◌, ◌≤ℤ◌, ◌++◌, ◌∷◌, [], ℤ, List, Contains, map};
+ghost use Rattle.qap_cost.specs.Instance.{Problem};
+ghost use Rattle.qap_cost.specs.Placement.{IsPlacement, Placement};
 ghost use Rattle.shared_space.specs.Law.{Content};
 ghost use Rattle.space_txn.specs.Content.{SameItems};
-ghost use Rattle.subtree_search.specs.Best.{Best};
+ghost use Rattle.subtree_search.specs.Best.{Best, IsIncumbent};
 ghost use Rattle.subtree_search.specs.Closed.{IsClosed};
+ghost use Rattle.part_search.specs.Covers.{AreLeft};
 ghost use Rattle.part_search.specs.Law.{IsPart, IsSearched, Part};
 ghost use Rattle.part_search.specs.Replacement.{MayReplace};
 ghost use Rattle.part_search.specs.Tuples.{OpenNode, best_tuple, node_tuple, open_count};
 
-/// The open root, with a value that no completion of it costs less than, and the permutation that is known before satisfy the law.
+/// The open root, with a value that no completion of it costs less than, and the permutation that is known before satisfy the law;
+/// and so do open nodes that remain to be searched below the root.
 pub fn opening_law()
-    ensures { (S : Part) (value : ℤ) → IsPart S → IsClosed S.instance S.root value →
+    ensures root { (S : Part) (value : ℤ) → IsPart S → IsClosed S.instance S.root value →
         IsSearched S (node_tuple (record { node = S.root; value = value }) ∷ best_tuple S.start ∷ []) }
+    ensures left { (S : Part) (opens : List OpenNode) → IsIncumbent S.instance S.start → AreLeft S.instance S.root S.start.cost opens →
+        IsSearched S (best_tuple S.start ∷ map node_tuple opens) }
+{}
+
+/// A root alone remains to be searched, whatever the incumbent costs. What remains for one incumbent is enough for a better one.
+pub fn left_law()
+    ensures root { (I : Problem) (x : Placement) (value c : ℤ) → IsPlacement x → x.size ≡ I.size → IsClosed I x value →
+        AreLeft I x c (record { node = x; value = value } ∷ []) }
+    ensures better { (I : Problem) (x : Placement) (c d : ℤ) (opens : List OpenNode) → d ≤ℤ c → AreLeft I x c opens → AreLeft I x d opens }
 {}
 
 /// The law on tuples does not depend on their order.

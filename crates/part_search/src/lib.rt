@@ -25,10 +25,13 @@ mod worker;
 pub use aid::Aid;
 pub use answer::{Answer, answer_of};
 pub use ground::Ground;
-pub use law::{best_law, bound_law, opening_law, optimal_law, order_law, replacement_law};
+pub use law::{
+    best_law, bound_law, left_law, opening_law, optimal_law, order_law, replacement_law,
+};
 pub use offers::Offers;
+pub use open_node::Open;
 pub use pieces::Pieces;
-pub use schedule::{Step, Task, play};
-pub use threads::{Crew, Order, solve};
+pub use schedule::{Step, Task, play, play_from};
+pub use threads::{Crew, Order, solve, solve_from};
 pub use watch::{Progress, Watch};
 pub use worker::Worker;

@@ -1,18 +1,22 @@
 //! Runs of a search by a schedule: turns of workers, moments and losses in any order.
 
-ghost use Rattle.std.specs.Prelude.{◌≡◌, ◌<◌, ◌≤◌, nat_lt, All, IfOk, None, OnOk, ℕ, length, vec_len};
+ghost use Rattle.std.specs.Prelude.{◌≡◌, ◌<◌, ◌≤◌, nat_lt, All, IfOk, None, OnOk, ℕ, length, map, vec_len};
 ghost use Rattle.std.specs.Arc.{arc_value};
+ghost use Rattle.qap_cost.specs.Objective.{cost_of};
 ghost use Rattle.shared_space.specs.Event.{Did};
 ghost use Rattle.shared_space.specs.Opening.{IsBlankFor, opened};
 ghost use Rattle.subtree_search.specs.Best.{IsIncumbent};
+ghost use Rattle.part_search.specs.Covers.{AreLeft};
 ghost use Rattle.part_search.specs.Law.{IsLawOf};
 ghost use Rattle.part_search.specs.Opening.{IsOpening, part_from};
 ghost use Rattle.part_search.specs.Schedule.{IsRun, Moves, Turns};
+ghost use Rattle.part_search.specs.Tuples.{open_of};
 ghost use Rattle.part_search.specs.Worker.{Allows, Job, Made, job_of};
 
 use crate::aid;
 use crate::ground::Ground;
-use crate::opening::opening_space;
+use crate::open_node::Open;
+use crate::opening::{opening_space, root_alone};
 use crate::worker::Worker;
 use qap_cost::{Partial, Perm};
 use shared_space::{Alone, Law, Room, Share, no_limit_law};
@@ -64,9 +68,27 @@ pub fn play<S: Stop>(
     requires start { length task.now.start.now ≡ (arc_value task.now.ground.now).size }
     ensures { IfOk result (IsRun (part_from (arc_value task.now.ground.now) task.now.root.now task.now.start.now) workers steps.now) }
 {
+    let opens = root_alone(alloc, task.ground.instance(), task.root)?;
+    play_from(alloc, task, &opens, workers, steps)
+}
+
+/// Likewise from open nodes that remain to be searched below the root, instead of the root alone.
+pub fn play_from<S: Stop>(
+    alloc: Global,
+    task: &Task<'_, S>,
+    opens: &[Open],
+    workers: u16,
+    steps: &[Step],
+) -> Result<TxnSpace, AllocError>
+    requires some { 0 < workers }
+    requires few { workers ≤ 64 }
+    requires start { length task.now.start.now ≡ (arc_value task.now.ground.now).size }
+    requires opens { AreLeft (arc_value task.now.ground.now) task.now.root.now (cost_of (arc_value task.now.ground.now) task.now.start.now) (map open_of opens.now) }
+    ensures { IfOk result (IsRun (part_from (arc_value task.now.ground.now) task.now.root.now task.now.start.now) workers steps.now) }
+{
     let instance = task.ground.instance();
     let start = Incumbent::new(instance, task.start.copy()?);
-    let space = opening_space(alloc, instance, task.root, &start)?;
+    let space = opening_space(alloc, opens, &start)?;
     let blank = Blank::new(u64::from(workers));
     follow::<Brand, S>(alloc, task, space, blank, workers, steps)
 }

@@ -1,21 +1,25 @@
 //! A search by several workers, each in its own thread.
 
-ghost use Rattle.std.specs.Prelude.{◌≡◌, ◌<◌, ◌≤◌, [], IfOk, length, vec_capacity, vec_len};
+ghost use Rattle.std.specs.Prelude.{◌≡◌, ◌<◌, ◌≤◌, [], IfOk, length, map, vec_capacity, vec_len};
 ghost use Rattle.std.specs.Arc.{arc_value};
+ghost use Rattle.qap_cost.specs.Objective.{cost_of};
 ghost use Rattle.shared_space.specs.Limit.{IsWithin};
 ghost use Rattle.shared_space.specs.Opening.{IsBlankFor, opened};
 ghost use Rattle.shared_space.specs.Run.{IsReached};
 ghost use Rattle.space_txn.specs.Content.{content_of};
 ghost use Rattle.part_search.specs.Answer.{IsAnswer};
+ghost use Rattle.part_search.specs.Covers.{AreLeft};
 ghost use Rattle.part_search.specs.Law.{IsLawOf, IsSearched, Part};
 ghost use Rattle.part_search.specs.Opening.{IsOpening, part_from};
 ghost use Rattle.part_search.specs.Ran.{Ran, RanTo};
+ghost use Rattle.part_search.specs.Tuples.{open_of};
 ghost use Rattle.part_search.specs.Worker.{Allows, job_of};
 
 use crate::answer::{Answer, answer_of};
 use crate::board::Board;
 use crate::offers::Offers;
-use crate::opening::{LEAST_COST, opening_space};
+use crate::open_node::Open;
+use crate::opening::{opening_space, root_alone};
 use crate::pieces::Pieces;
 use crate::schedule::Task;
 use crate::seat::{Seat, Workplace};
@@ -88,7 +92,37 @@ where
     ensures limit { IfOk result (λ a. IsWithin crew.limit a.nodes) }
     ensures ran { IfOk result (Ran (part_from (arc_value task.now.ground.now) task.now.root.now task.now.start.now) crew) }
 {
-    let space = run_of(rt, alloc, task, crew, beside)?;
+    if beside.are_kept() {
+        hand_on_root(alloc, task, beside)?;
+    }
+    let opens = root_alone(alloc, task.ground.instance(), task.root)?;
+    let answer = solve_from(rt, alloc, task, &opens, crew, beside)?;
+    Ok(answer)
+}
+
+/// Likewise from open nodes that remain to be searched below the root, as those that an earlier search has left, instead
+/// of the root alone. The text of a tree over the root, of which they are leaves, is not handed on.
+pub fn solve_from<R, S, O>(
+    rt: &R,
+    alloc: Global,
+    task: &Task<'_, S>,
+    opens: &[Open],
+    crew: Crew,
+    beside: &O,
+) -> Result<Answer, AllocError>
+where
+    R: Threads + Wait + time::Clock + Sync,
+    S: Watch,
+    O: Offers + Pieces + Sync,
+    requires some { 0 < crew.workers }
+    requires few { crew.workers ≤ 64 }
+    requires start { length task.now.start.now ≡ (arc_value task.now.ground.now).size }
+    requires opens { AreLeft (arc_value task.now.ground.now) task.now.root.now (cost_of (arc_value task.now.ground.now) task.now.start.now) (map open_of opens.now) }
+    ensures answer { IfOk result (IsAnswer (part_from (arc_value task.now.ground.now) task.now.root.now task.now.start.now)) }
+    ensures limit { IfOk result (λ a. IsWithin crew.limit a.nodes) }
+    ensures ran { IfOk result (Ran (part_from (arc_value task.now.ground.now) task.now.root.now task.now.start.now) crew) }
+{
+    let space = run_of(rt, alloc, task, opens, crew, beside)?;
     let answer = answer_of(alloc, task.ground.instance(), space)?;
     Ok(answer)
 }
@@ -98,6 +132,7 @@ fn run_of<R, S, O>(
     rt: &R,
     alloc: Global,
     task: &Task<'_, S>,
+    opens: &[Open],
     crew: Crew,
     beside: &O,
 ) -> Result<TxnSpace, AllocError>
@@ -107,20 +142,17 @@ where
     O: Offers + Pieces + Sync,
     requires some { 0 < crew.workers }
     requires few { crew.workers ≤ 64 }
-    requires same_size { task.now.root.now.size ≡ (arc_value task.now.ground.now).size }
     requires start { length task.now.start.now ≡ (arc_value task.now.ground.now).size }
+    requires opens { AreLeft (arc_value task.now.ground.now) task.now.root.now (cost_of (arc_value task.now.ground.now) task.now.start.now) (map open_of opens.now) }
     ensures searched { IfOk result (λ space. IsSearched (part_from (arc_value task.now.ground.now) task.now.root.now task.now.start.now) (content_of space)) }
     ensures limit { IfOk result (λ space. IsWithin crew.limit space.commits) }
     ensures ran { IfOk result (RanTo (part_from (arc_value task.now.ground.now) task.now.root.now task.now.start.now) crew) }
 {
     let instance = task.ground.instance();
     let start = Incumbent::new(instance, task.start.copy()?);
-    if beside.are_kept() {
-        hand_on_root(alloc, task, &start, beside)?;
-    }
-    let space = opening_space(alloc, instance, task.root, &start)?;
+    let space = opening_space(alloc, opens, &start)?;
     let blank = Blank::new(u64::from(crew.workers));
-    let left = search::<Brand, R, S, O>(rt, alloc, task, space, blank, crew, beside)?;
+    let left = search::<Brand, R, S, O>(rt, alloc, task, opens, space, blank, crew, beside)?;
     Ok(left)
 }
 
@@ -128,13 +160,14 @@ where
 fn hand_on_root<S, O: Pieces>(
     alloc: Global,
     task: &Task<'_, S>,
-    start: &Incumbent,
     beside: &O,
 ) -> Result<(), AllocError>
-    requires { task.now.root.now.size ≡ (arc_value task.now.ground.now).size }
+    requires size { task.now.root.now.size ≡ (arc_value task.now.ground.now).size }
+    requires start { length task.now.start.now ≡ (arc_value task.now.ground.now).size }
 {
+    let start = Incumbent::new(task.ground.instance(), task.start.copy()?);
     let mut record = TextRecord::new(alloc);
-    task.ground.leave(alloc, task.root, start, &mut record)?;
+    task.ground.leave(alloc, task.root, &start, &mut record)?;
     if !record.text().is_empty() {
         beside.keep(task.root, &record);
     }
@@ -146,6 +179,7 @@ fn search<L, R, S, O>(
     rt: &R,
     alloc: Global,
     task: &Task<'_, S>,
+    opens: &[Open],
     space: TxnSpace,
     blank: Blank,
     crew: Crew,
@@ -172,13 +206,17 @@ where
     let room = Vec::with_capacity(alloc, count)?;
     let nodes = node_template(alloc)?;
     let cost = cost(task.ground.instance(), task.start);
-    let values = Values::new(alloc, task.root, LEAST_COST, cost)?;
+    let values = Values::new(alloc, task.root, opens, cost)?;
+    let board = match crew.order {
+        Order::Deepest => Board::new(alloc),
+        Order::Least => Board::with_all(alloc, opens)?,
+    };
     let (shared, shares) = Shared::<L>::within(alloc, blank, space, count, crew.limit)?;
     let seats = seats_for(alloc, task, crew, shares)?;
     let waiting = AtomicU64::new(0);
     let halt = AtomicBool::new(false);
     let tried = AtomicU64::new(0);
-    let board = Mutex::new(Board::new(alloc));
+    let board = Mutex::new(board);
     let values = Mutex::new(values);
     let place = Workplace {
         rt,

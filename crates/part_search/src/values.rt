@@ -1,5 +1,6 @@
 //! The values of the nodes that a search has yet to decide, and the cost of its incumbent: advice, which no proof relies on.
 
+use crate::open_node::Open;
 use crate::trying::Trial;
 use qap_cost::Partial;
 use std::alloc::{AllocError, Global};
@@ -28,23 +29,27 @@ pub(crate) struct Values {
 }
 
 impl Values {
-    /// That of the root, and the cost of the permutation to start from.
+    /// Those of open nodes below a root, and the cost of the permutation to start from.
     pub(crate) fn new(
         alloc: Global,
         root: &Partial,
-        value: i128,
+        opens: &[Open],
         cost: i128,
     ) -> Result<Values, AllocError> {
-        let mut counts = BTreeMap::new(alloc);
-        counts.insert(value, 1)?;
-        Ok(Values {
-            counts,
+        let mut values = Values {
+            counts: BTreeMap::new(alloc),
             cost,
             is_complete: true,
             top: root.depth(),
             shares: shares_below(alloc, root.size().saturating_sub(root.depth()))?,
-            left: WHOLE,
-        })
+            left: 0,
+        };
+        for open_node in opens {
+            values.add(open_node.value)?;
+            let share = values.share(open_node.node.depth());
+            values.left = values.left.saturating_add(share);
+        }
+        Ok(values)
     }
 
     /// Adds the values of the nodes that a trial left open, before the commit that opens them.

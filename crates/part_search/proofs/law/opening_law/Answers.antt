@@ -1,5 +1,5 @@
-use Rattle.part_search.proofs.Replacing.{opening}
+use Rattle.part_search.proofs.Replacing.{opening, opening_left}
 use Rattle.part_search.proofs.law.opening_law.Goals as goal
 
 pub returns : goal.returns
-returns c = opening
+returns c = record { root = opening; left = opening_left }

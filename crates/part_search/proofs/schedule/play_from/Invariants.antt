@@ -4,7 +4,7 @@ use Rattle.part_search.specs.Law.{IsSearched, Part, best_with}
 use Rattle.part_search.specs.Opening.{part_of}
 use Rattle.part_search.specs.Replacement.{MayReplace}
 use Rattle.part_search.proofs.Replacing.{searched_kept, searched_unordered}
-use Rattle.part_search.proofs.schedule.play.Given as goal
+use Rattle.part_search.proofs.schedule.play_from.Given as goal
 
 abbrev pub ghosts-follow-L-Ledger : goal.ghosts-follow-L-Ledger
 ghosts-follow-L-Ledger g a = record { name = a.blank.name; parts = a.blank.parts }
