@@ -105,6 +105,21 @@ pub fn accept_copied<R: BufRead, W: Write>(
     check(alloc, instance, step, reader, false)
 }
 
+/// Likewise, with the leaves of the tree whose values are below the cost: what a search that was stopped has left open.
+pub fn accept_leaves_copied<R: BufRead, W: Write>(
+    alloc: Global,
+    instance: &Instance,
+    step: u64,
+    reader: &mut Tee<R, W>,
+) -> Result<Checked, ProofError>
+    requires step { step ≡ step_of instance.now }
+    ensures copied { IfOk result (λ c. CopiesLeaves instance.now reader.old reader.new c.root c.cost c.bound c.cost c.permutation c.leaves.items) }
+    ensures refused { IfErr result (RefusesNoProof instance.now reader.old.left) }
+    ensures fault { IfErr result (RefusesPairs instance.now reader.old.left) }
+{
+    check(alloc, instance, step, reader, true)
+}
+
 /// Checks a text as it is copied; without leaves, those with values below the bound are listed, and there are none.
 fn check<R: BufRead, W: Write>(
     alloc: Global,

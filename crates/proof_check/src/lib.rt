@@ -17,6 +17,8 @@ mod split;
 mod tee;
 mod walking;
 
-pub use acceptance::{Checked, accept, accept_copied, accept_leaves, accept_stated};
+pub use acceptance::{
+    Checked, accept, accept_copied, accept_leaves, accept_leaves_copied, accept_stated,
+};
 pub use law::verdict_law;
 pub use tee::Tee;

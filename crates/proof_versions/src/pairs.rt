@@ -9,7 +9,7 @@ ghost use Rattle.proof_versions.specs.Versions.{RefusesNoPairs, StatesVersionTwo
 ghost use Rattle.proof_versions.specs.Streams.{StreamProves, StreamRefuses, StreamShows};
 
 use pair_duals::cost_step;
-use proof_check::{Checked, Tee, accept, accept_copied, accept_stated};
+use proof_check::{Checked, Tee, accept, accept_copied, accept_leaves_copied, accept_stated};
 use qap_cost::Instance;
 use qap_proof::{ProofError, Verdict};
 use std::alloc::Global;
@@ -67,6 +67,18 @@ pub fn copy_stream<R: BufRead, W: Write>(
     ensures refused { IfErr result (StreamRefuses instance.now reader.old.left) }
 {
     accept_copied(alloc, instance, step(instance), reader)
+}
+
+/// Likewise, with the leaves of its tree whose values are below its cost.
+pub fn copy_leaves_stream<R: BufRead, W: Write>(
+    alloc: Global,
+    instance: &Instance,
+    reader: &mut Tee<R, W>,
+) -> Result<Checked, ProofError>
+    ensures copied { IfOk result (λ c. CopiesLeaves instance.now reader.old reader.new c.root c.cost c.bound c.cost c.permutation c.leaves.items) }
+    ensures refused { IfErr result (StreamRefuses instance.now reader.old.left) }
+{
+    accept_leaves_copied(alloc, instance, step(instance), reader)
 }
 
 /// What a text of version 2 states, where it is that of a proof which proves its bound for the instance.
