@@ -1,5 +1,5 @@
 -- The leaves of a checked proof with values below its cost are open nodes that remain to be searched.
-use Rattle.std.proofs.Common.{◌≡◌, ℕ, ◌+◌, List, [], ◌∷◌, ◌++◌, map, ℤ, ◌≤ℤ◌, refl, sym, ap, subst, inl, inr, ◌∙◌, arith}
+use Rattle.std.proofs.Common.{◌≡◌, ℕ, ◌+◌, List, [], ◌∷◌, ◌++◌, map, ℤ, ◌≤ℤ◌, length, refl, sym, ap, subst, inl, inr, ◌∙◌, arith}
 use Rattle.std.specs.Prelude.{All, Option, Some, None, ◌⊎◌}
 use Rattle.std.proofs.lemmas.Int.{ints}
 use Rattle.std.proofs.lemmas.List.Elements.{All-append, All-cons, All-head, All-nil, All-tail}
@@ -73,23 +73,23 @@ bounded_of I g (l ∷ ls) all =
     All-cons (IsBounded I g) l ls (λ p permutes done. (All-head (IsAbove I g) (open_leaf l) (map open_leaf ls) all).least p done)
     (bounded_of I g ls (All-tail (IsAbove I g) (open_leaf l) (map open_leaf ls) all))
 
+abbrev first_node : List OpenNode → Placement → Placement
+first_node [] x = x
+first_node (o ∷ os) x = o.node
+
+abbrev behind_first : List OpenNode → List OpenNode
+behind_first [] = []
+behind_first (o ∷ os) = os
+
 -- open nodes that are these leaves have the leaves' nodes
 placed_of : (opens : List Open) (ls : List Leaf) → map open_of opens ≡ map open_leaf ls → All IsPlacement (map node_part opens) → All (λ (l : Leaf). IsPlacement l.node) ls
 placed_of opens [] is placed = All-nil (λ (l : Leaf). IsPlacement l.node)
 placed_of [] (l ∷ ls) is placed = absurd (let long = ap length is in omega (arith, long))
 placed_of (o ∷ os) (l ∷ ls) is placed =
-    let first : o.node ≡ l.node = ap (λ (xs : List OpenNode). node_at xs o.node) is in
-    let rest : map open_of os ≡ map open_leaf ls = ap behind is in
+    let first : o.node ≡ l.node = ap (λ (xs : List OpenNode). first_node xs o.node) is in
+    let rest : map open_of os ≡ map open_leaf ls = ap behind_first is in
     All-cons (λ (l : Leaf). IsPlacement l.node) l ls (subst IsPlacement first (All-head IsPlacement o.node (map node_part os) placed))
     (placed_of os ls rest (All-tail IsPlacement o.node (map node_part os) placed))
-  where
-    node_at : List OpenNode → Placement → Placement
-    node_at [] x = x
-    node_at (a ∷ as) x = a.node
-
-    behind : List OpenNode → List OpenNode
-    behind [] = []
-    behind (a ∷ as) = as
 
 -- the leaves that cover a root up to a cost remain to be searched below it
 pub left_of : (I : Problem) (x : Placement) (c : ℤ) (ls : List Leaf) (opens : List Open) → IsCovering (cover_of I x c ls) → All (IsSized x.size) ls → map open_of opens ≡ map open_leaf ls → All IsPlacement (map node_part opens)

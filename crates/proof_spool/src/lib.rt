@@ -3,13 +3,16 @@
 
 mod assembly;
 mod front;
+mod leaf_lines;
 mod piece;
 mod shared;
 mod spool;
+mod stopped;
 mod tree;
 mod writing;
 
 pub use shared::SharedSpool;
 pub use spool::Spool;
+pub use stopped::{Stopped, stopped_run};
 pub use tree::Tree;
 pub use writing::{Claim, write_checked};

@@ -3,11 +3,12 @@
 use std::alloc::{AllocError, Global};
 use subtree_search::Hole;
 
-/// A leaf that was left open: the child's facility and location, if it is that of a child, the bound that it reaches by its line,
-/// where that line begins and ends in the piece, and the number of the piece over the child, if there is one.
-#[derive(Clone, Copy, Debug)]
+/// A leaf that was left open: what its node places that the piece's node does not, facilities and locations alternately, the bound
+/// that it reaches by its line, where that line begins and ends in the piece, and the number of the piece over its node, if there is
+/// one.
+#[derive(Drop)]
 pub(crate) struct Gap {
-    pub(crate) child: Option<(u16, u16)>,
+    pub(crate) below: Vec<u16>,
     pub(crate) bound: i128,
     pub(crate) begins: u64,
     pub(crate) ends: u64,
@@ -45,12 +46,17 @@ pub(crate) fn lesser(one: Option<i128>, other: Option<i128>) -> Option<i128> {
     }
 }
 
-/// The leaves at these places, with no pieces over their children yet.
+/// The leaves at these places, with no pieces over their nodes yet.
 pub(crate) fn gaps_of(alloc: Global, holes: &[Hole]) -> Result<Vec<Gap>, AllocError> {
     let mut gaps = Vec::with_capacity(alloc, holes.len())?;
     for hole in holes {
+        let mut below = Vec::new(alloc);
+        if let Some((facility, location)) = hole.child {
+            below.push(facility)?;
+            below.push(location)?;
+        }
         gaps.push(Gap {
-            child: hole.child,
+            below,
             bound: hole.bound,
             begins: hole.begins as u64,
             ends: hole.ends as u64,

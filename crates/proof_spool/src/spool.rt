@@ -1,7 +1,9 @@
 //! The file of the pieces of a proof, and its index.
 
-use crate::piece::{Piece, gaps_of};
+use crate::leaf_lines::{gaps_in, tree_in};
+use crate::piece::{Gap, Piece, gaps_of};
 use crate::tree::Tree;
+use part_search::Open;
 use qap_cost::Partial;
 use std::alloc::{AllocError, Global};
 use std::collections::HashMap;
@@ -77,17 +79,31 @@ impl<F: Write> Spool<F> {
     }
 
     fn add(&mut self, node: &Partial, piece: &TextRecord) -> io::Result<()> {
-        self.file.write_all(piece.text())?;
-        self.note(node, piece)?;
+        let gaps = gaps_of(self.alloc, piece.holes())?;
+        self.write(node, piece.text(), gaps)
+    }
+
+    /// Adds the tree of a proof over a root, from the text of that proof, in place of the leaves of which other pieces are to come: those of
+    /// these open nodes. It is refused as bad data if it does not have a line for each of them.
+    pub fn keep_proof(&mut self, root: &Partial, text: &[u8], opens: &[Open]) -> io::Result<()> {
+        let tree = tree_in(text);
+        let gaps = gaps_in(self.alloc, root, tree, opens)?;
+        if gaps.len() < opens.len() {
+            return Err(io::Error::from(io::ErrorKind::InvalidData));
+        }
+        self.write(root, tree, gaps)
+    }
+
+    fn write(&mut self, node: &Partial, text: &[u8], gaps: Vec<Gap>) -> io::Result<()> {
+        self.file.write_all(text)?;
+        self.note(node, text.len() as u64, gaps)?;
         Ok(())
     }
 
-    /// Adds to the index a text that was written.
-    fn note(&mut self, node: &Partial, piece: &TextRecord) -> Result<(), AllocError> {
+    /// Adds to the index a text of this length that was written.
+    fn note(&mut self, node: &Partial, length: u64, gaps: Vec<Gap>) -> Result<(), AllocError> {
         let key = key_of(self.alloc, node)?;
-        let gaps = gaps_of(self.alloc, piece.holes())?;
         let number = self.pieces.len();
-        let length = piece.text().len() as u64;
         self.pieces.push(Piece {
             offset: self.length,
             length,
@@ -109,7 +125,7 @@ impl<F: Write> Spool<F> {
 }
 
 /// The facilities and the locations that a node places, alternately.
-fn key_of(alloc: Global, node: &Partial) -> Result<Vec<u16>, AllocError> {
+pub(crate) fn key_of(alloc: Global, node: &Partial) -> Result<Vec<u16>, AllocError> {
     let mut key = Vec::new(alloc);
     for (facility, place) in node.facilities().iter().zip(node.places()) {
         key.push(*facility)?;
@@ -118,7 +134,7 @@ fn key_of(alloc: Global, node: &Partial) -> Result<Vec<u16>, AllocError> {
     Ok(key)
 }
 
-/// Finds the pieces over the open children of each piece.
+/// Finds the pieces over the open leaves of each piece.
 fn link(
     alloc: Global,
     numbers: &HashMap<Vec<u16>, usize>,
@@ -133,7 +149,7 @@ fn link(
     Ok(())
 }
 
-/// Finds the pieces over the open children of the piece over a node.
+/// Finds the pieces over the open leaves of the piece over a node.
 fn link_piece(
     numbers: &HashMap<Vec<u16>, usize>,
     node: &[u16],
@@ -141,11 +157,10 @@ fn link_piece(
     child: &mut Vec<u16>,
 ) -> Result<(), AllocError> {
     for gap in piece.gaps.iter_mut() {
-        if let Some((facility, location)) = gap.child {
+        if !gap.below.is_empty() {
             child.clear();
             child.extend_from_slice(node)?;
-            child.push(facility)?;
-            child.push(location)?;
+            child.extend_from_slice(&gap.below)?;
             gap.piece = numbers.get(&*child).copied();
         }
     }
