@@ -7,6 +7,8 @@ use Rattle.qap_cost.specs.Objective.{Permutes, cost_of}
 use Rattle.qap_cost.specs.Placement.{Completes, Placement, root_of}
 use Rattle.qap_cost.proofs.Nodes.{root_completed}
 use Rattle.qap_proof.specs.Claim.{Claim}
+use Rattle.plan_search.specs.Beginning.{IsLeft}
+use Rattle.plan_search.specs.declared.beginning.Left.{Left}
 use Rattle.plan_search.specs.Keeping.{IsKept, IsNoDearerKept, IsSearched, ProvesKept}
 use Rattle.plan_search.specs.Planning.{IsNoDearer, IsPlanned, ProvesOver}
 
@@ -69,4 +71,15 @@ kept_of I x start first p c g no_dearer completes searched = record {
   no_dearer = no_dearer_kept I x start c (cost_of I first) no_dearer searched.no_dearer;
   none_less = searched.none_less;
   at_most = searched.at_most;
+}
+
+-- what remains below a node remains below another node with the same completions
+pub left_same : (I : Problem) (x y : Placement) (l : Option Left) → ((q : List ℕ) → Completes x q ↔ Completes y q) → IfSome l (IsLeft I x) → IfSome l (IsLeft I y)
+left_same I x y None same h = tt
+left_same I x y (Some l) same h = record {
+  permutes = h.permutes;
+  opens = record {
+    values = h.opens.values;
+    covers = record { below = λ g under all. record { least = λ p done. (h.opens.covers.below g under all).least p ((same p).1 done) } };
+  };
 }

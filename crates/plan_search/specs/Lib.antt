@@ -1,3 +1,4 @@
+pub mod Beginning
 pub mod Keeping
 pub mod Options
 pub mod Planning

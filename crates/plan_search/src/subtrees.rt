@@ -1,13 +1,19 @@
 //! Searches below a root by workers on subtrees.
 
 ghost use Rattle.std.specs.Arc.{arc_value};
-ghost use Rattle.std.specs.Prelude.{IfOk, IfSome, List, None, ℕ, ℤ, ◌<◌, ◌≡◌, ◌≤ℤ◌, ◌≤◌};
+ghost use Rattle.std.specs.Prelude.{IfOk, IfSome, List, None, length, map, ℕ, ℤ, ◌<◌, ◌≡◌, ◌≤ℤ◌, ◌≤◌};
 ghost use Rattle.qap_cost.specs.Objective.{Permutes, cost_of};
 ghost use Rattle.qap_cost.specs.Placement.{Completes};
+ghost use Rattle.part_search.specs.Answer.{IsAnswer};
+ghost use Rattle.part_search.specs.Covers.{AreLeft};
+ghost use Rattle.part_search.specs.Opening.{part_from};
+ghost use Rattle.part_search.specs.Tuples.{open_of};
 ghost use Rattle.subtree_search.specs.Closed.{IsClosed};
+ghost use Rattle.plan_search.specs.Beginning.{IsBeginning};
 ghost use Rattle.plan_search.specs.Keeping.{IsSearched};
 ghost use Rattle.plan_search.specs.Options.{AreLimited};
 
+use crate::beginning::Beginning;
 use crate::hooks::{Hooks, WithPieces};
 use crate::improving::is_better;
 use crate::keeper::{Keeper, Progress};
@@ -18,7 +24,7 @@ use crate::tabu::{Beside, Tabu};
 use dual_ascent::{Effort, has_range};
 use gilmore_lawler::RankedInstance;
 use node_split::NodeSplit;
-use part_search::{Answer, Crew, Ground, Offers, Pieces, Task, Watch, solve};
+use part_search::{Answer, Crew, Ground, Offers, Open, Pieces, Task, Watch, solve, solve_from};
 use qap_cost::{Instance, Partial, Perm, cost};
 use std::alloc::{AllocError, Global};
 use std::cell::Cell;
@@ -40,14 +46,14 @@ const EASY_NODES: u64 = 500;
 /// In how many rounds of the thread that keeps the space the progress is shown once.
 const ROUNDS_PER_LOOK: u32 = 128;
 
-/// Searches below a root from a permutation on, to the end or until a limit is reached or a stop is requested. Under a
+/// Searches below a root from a beginning on, to the end or until a limit is reached or a stop is requested. Under a
 /// time limit tabu searches go on beside it for the whole time; the best permutation that they find counts too.
 pub(crate) fn search_subtrees<T, K, P>(
     system: &T,
     alloc: Global,
     instance: &Instance,
     root: &Partial,
-    start: &Perm,
+    begin: Beginning<'_>,
     options: &Options,
     hooks: &Hooks<'_, K, P>,
 ) -> Result<Planned, AllocError>
@@ -56,13 +62,13 @@ where
     K: Keeper,
     P: Pieces + Sync,
     requires limited { AreLimited options.now }
-    requires start { Permutes instance.now start.now }
+    requires begin { IsBeginning instance.now root.now begin }
     requires same_size { root.now.size ≡ instance.now.size }
-    ensures searched { IfOk result (λ x. IsSearched instance.now root.now start.now x.permutation x.cost x.bound) }
+    ensures searched { IfOk result (λ x. IsSearched instance.now root.now begin.start.now x.permutation x.cost x.bound) }
     ensures proof { IfOk result (λ x. x.proof ≡ None) }
 {
     let first_ms = options.first_turn_ms(root);
-    let tabu = Tabu::new(system, alloc, instance, root, start, options.seed)?.with_turns(first_ms);
+    let tabu = Tabu::new(system, alloc, instance, root, begin.start, options.seed)?.with_turns(first_ms);
     let others = WithPieces {
         tabu: &tabu,
         pieces: hooks.pieces,
@@ -73,7 +79,7 @@ where
         looks: Cell::new(0),
     };
     let beside = (&watcher, &others);
-    let found = searched_beside(system, alloc, instance, root, start, options, beside)?;
+    let found = searched_beside(system, alloc, instance, root, begin, options, beside)?;
     let best = tabu.best()?;
     Ok(with_better(instance, root, found, best))
 }
@@ -84,7 +90,7 @@ fn searched_beside<T, S, O>(
     alloc: Global,
     instance: &Instance,
     root: &Partial,
-    start: &Perm,
+    begin: Beginning<'_>,
     options: &Options,
     beside: (&S, &O),
 ) -> Result<Planned, AllocError>
@@ -93,9 +99,9 @@ where
     S: TimedWatch,
     O: Beside + Pieces + Sync,
     requires limited { AreLimited options.now }
-    requires start { Permutes instance.now start.now }
+    requires begin { IsBeginning instance.now root.now begin }
     requires same_size { root.now.size ≡ instance.now.size }
-    ensures searched { IfOk result (λ x. IsSearched instance.now root.now start.now x.permutation x.cost x.bound) }
+    ensures searched { IfOk result (λ x. IsSearched instance.now root.now begin.start.now x.permutation x.cost x.bound) }
     ensures proof { IfOk result (λ x. x.proof ≡ None) }
 {
     let (watch, others) = beside;
@@ -104,9 +110,9 @@ where
         system,
         |scope| -> Result<Planned, AllocError>
             requires limited { AreLimited options.now }
-            requires start { Permutes instance.now start.now }
+            requires begin { IsBeginning instance.now root.now begin }
             requires same_size { root.now.size ≡ instance.now.size }
-            ensures searched { IfOk result (λ x. IsSearched instance.entry.now root.entry.now start.entry.now x.permutation x.cost x.bound) }
+            ensures searched { IfOk result (λ x. IsSearched instance.entry.now root.entry.now begin.entry.start.now x.permutation x.cost x.bound) }
             ensures proof { IfOk result (λ x. x.proof ≡ None) }
         {
             for number in 0..options.tabu_threads(root) {
@@ -114,7 +120,7 @@ where
                 let _ = scope.spawn(move || others.search(number));
             }
             let beside = (watch, others);
-            let found = searched_by_workers(system, alloc, instance, root, start, options, beside);
+            let found = searched_by_workers(system, alloc, instance, root, begin, options, beside);
             others.halt();
             found
         },
@@ -127,7 +133,7 @@ fn searched_by_workers<T, S, O>(
     alloc: Global,
     instance: &Instance,
     root: &Partial,
-    start: &Perm,
+    begin: Beginning<'_>,
     options: &Options,
     beside: (&S, &O),
 ) -> Result<Planned, AllocError>
@@ -136,25 +142,28 @@ where
     S: TimedWatch,
     O: Offers + Pieces + Sync,
     requires limited { AreLimited options.now }
-    requires start { Permutes instance.now start.now }
+    requires begin { IsBeginning instance.now root.now begin }
     requires same_size { root.now.size ≡ instance.now.size }
-    ensures searched { IfOk result (λ x. IsSearched instance.now root.now start.now x.permutation x.cost x.bound) }
+    ensures searched { IfOk result (λ x. IsSearched instance.now root.now begin.start.now x.permutation x.cost x.bound) }
     ensures proof { IfOk result (λ x. x.proof ≡ None) }
 {
     let (watch, offers) = beside;
-    let easy = searched_briefly(system, alloc, instance, root, start, options, watch)?;
-    if let Some(found) = easy {
+    if begin.opens.is_none()
+        && let Some(found) =
+            searched_briefly(system, alloc, instance, root, begin.start, options, watch)?
+    {
         return Ok(found);
     }
-    let scale = scale_for(cost(instance, start));
+    let scale = scale_for(cost(instance, begin.start));
     let ground = ground_for(alloc, instance, root, options, scale, watch.now())?;
     let task = Task {
         ground: &ground,
         root,
-        start,
+        start: begin.start,
         stop: watch,
     };
-    let found = searched_on(system, alloc, instance, &task, options.crew(root), offers)?;
+    let crew = options.crew(root);
+    let found = searched_on(system, alloc, instance, &task, begin.opens, crew, offers)?;
     if found.open_nodes == 0 {
         return Ok(found);
     }
@@ -235,7 +244,7 @@ where
         limit: Some(EASY_NODES),
         ..options.crew(root)
     };
-    let found = searched_on(system, alloc, instance, &task, crew, &Never)?;
+    let found = searched_on(system, alloc, instance, &task, None, crew, &Never)?;
     if found.open_nodes == 0 {
         Ok(Some(found))
     } else {
@@ -243,12 +252,14 @@ where
     }
 }
 
-/// What a search by these workers yields, who take up what is offered, and hand on pieces of a proof.
+/// What a search by these workers yields, from open nodes or from the root. They take up what is offered, and hand on pieces of a
+/// proof.
 fn searched_on<T, S, O>(
     system: &T,
     alloc: Global,
     instance: &Instance,
     task: &Task<'_, S>,
+    opens: Option<&[Open]>,
     crew: Crew,
     offers: &O,
 ) -> Result<Planned, AllocError>
@@ -261,12 +272,39 @@ where
     requires same { arc_value task.now.ground.now ≡ instance.now }
     requires start { Permutes instance.now task.now.start.now }
     requires same_size { task.now.root.now.size ≡ instance.now.size }
+    requires left { IfSome opens (λ o. AreLeft instance.now task.now.root.now (cost_of instance.now task.now.start.now) (map open_of o.now)) }
     ensures searched { IfOk result (λ x. IsSearched instance.now task.now.root.now task.now.start.now x.permutation x.cost x.bound) }
     ensures proof { IfOk result (λ x. x.proof ≡ None) }
 {
-    let answer = solve(system, alloc, task, crew, offers)?;
+    let answer = answered(system, alloc, task, opens, crew, offers)?;
     let found = found_by(&answer)?;
     Ok(found)
+}
+
+/// The answer of these workers.
+fn answered<T, S, O>(
+    system: &T,
+    alloc: Global,
+    task: &Task<'_, S>,
+    opens: Option<&[Open]>,
+    crew: Crew,
+    offers: &O,
+) -> Result<Answer, AllocError>
+where
+    T: Threads + Wait + time::Clock + Sync,
+    S: Watch,
+    O: Offers + Pieces + Sync,
+    requires some { 0 < crew.workers }
+    requires few { crew.workers ≤ 64 }
+    requires start { length task.now.start.now ≡ (arc_value task.now.ground.now).size }
+    requires same_size { task.now.root.now.size ≡ (arc_value task.now.ground.now).size }
+    requires left { IfSome opens (λ o. AreLeft (arc_value task.now.ground.now) task.now.root.now (cost_of (arc_value task.now.ground.now) task.now.start.now) (map open_of o.now)) }
+    ensures { IfOk result (IsAnswer (part_from (arc_value task.now.ground.now) task.now.root.now task.now.start.now)) }
+{
+    match opens {
+        Some(opens) => solve_from(system, alloc, task, opens, crew, offers),
+        None => solve(system, alloc, task, crew, offers),
+    }
 }
 
 /// Whether a search for a proof below a root from a permutation on is by pair duals: no number is out of range, few

@@ -1,10 +1,14 @@
 use Rattle.std.proofs.Common.{◌≡◌, ℕ, ℤ, List, subst, sym}
+use Rattle.std.specs.Prelude.{IfSome, map}
 use Rattle.std.specs.Arc.{arc_value}
 use Rattle.qap_cost.specs.Instance.{Problem}
+use Rattle.qap_cost.specs.Objective.{cost_of}
 use Rattle.qap_cost.specs.Placement.{Placement}
 use Rattle.part_search.specs.Answer.{IsAnswer}
+use Rattle.part_search.specs.Covers.{AreLeft}
 use Rattle.part_search.specs.Law.{best_with}
 use Rattle.part_search.specs.Opening.{part_of}
+use Rattle.part_search.specs.Tuples.{open_of}
 use Rattle.part_search.specs.declared.answer.Answer.{Answer}
 use Rattle.plan_search.specs.Keeping.{IsSearched}
 use Rattle.plan_search.proofs.subtrees.searched_on.Goals as goal
@@ -21,7 +25,11 @@ searched_of I J x first a same answer =
       at_most = answer.below;
     })
 
+pub answered-requires-clause-left : goal.answered-requires-clause-left
+answered-requires-clause-left g c =
+    λ κs alive. subst (λ (J : Problem). IfSome c.args.opens (λ o. AreLeft J c.args.task.now.root.now (cost_of J c.args.task.now.start.now) (map open_of o.now))) (sym c.requires.same) c.requires.left
+
 pub returns-clause-searched : goal.returns-clause-searched
 returns-clause-searched g c =
     let told = c.in_ok-found.ensures in
-    rw (told.permutation, told.cost, told.bound) (searched_of c.args.instance.now _ c.args.task.now.root.now c.args.task.now.start.now c.in_ok-answer.answer c.requires.same c.in_ok-answer.ensures.answer)
+    rw (told.permutation, told.cost, told.bound) (searched_of c.args.instance.now _ c.args.task.now.root.now c.args.task.now.start.now c.in_ok-answer.answer c.requires.same (c.in_ok-answer.ensures {u = tt}))

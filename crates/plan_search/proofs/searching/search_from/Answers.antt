@@ -1,9 +1,14 @@
-use Rattle.std.proofs.Common.{◌∙◌, ap, subst}
+use Rattle.std.proofs.Common.{◌∙◌, ap, subst, sym}
 use Rattle.std.specs.Prelude.{IfSome}
 use Rattle.qap_cost.specs.Placement.{Placement, root_of}
+use Rattle.plan_search.specs.Beginning.{IsLeft}
 use Rattle.plan_search.specs.Planning.{ProvesOver}
 use Rattle.plan_search.proofs.Kept.{planned_of}
-use Rattle.plan_search.proofs.searching.search.Goals as goal
+use Rattle.plan_search.proofs.searching.search_from.Goals as goal
+
+pub search_root-requires-clause-left : goal.search_root-requires-clause-left
+search_root-requires-clause-left g c κs within =
+    subst (λ (x : Placement). IfSome c.args.left (IsLeft c.args.instance.now x)) (sym (c.in_ok-root.ensures.value ∙ ap root_of c.size.ensures.value)) c.requires.left
 
 pub returns-clause-planned : goal.returns-clause-planned
 returns-clause-planned g c =
