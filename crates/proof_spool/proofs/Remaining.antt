@@ -1,6 +1,6 @@
 -- The leaves of a checked proof with values below its cost are open nodes that remain to be searched.
 use Rattle.std.proofs.Common.{◌≡◌, ℕ, ◌+◌, List, [], ◌∷◌, ◌++◌, map, ℤ, ◌≤ℤ◌, length, refl, sym, ap, subst, inl, inr, ◌∙◌, arith}
-use Rattle.std.specs.Prelude.{All, Option, Some, None, ◌⊎◌}
+use Rattle.std.specs.Prelude.{All, Option, Some, None, ◌⊎◌, ◌≢◌}
 use Rattle.std.proofs.lemmas.Int.{ints}
 use Rattle.std.proofs.lemmas.List.Elements.{All-append, All-cons, All-head, All-nil, All-tail}
 use Rattle.qap_cost.specs.Instance.{Problem}
@@ -18,7 +18,11 @@ use Rattle.part_search.specs.Covers.{AreLeft, HasValue, IsAbove}
 use Rattle.part_search.specs.Ground.{node_part}
 use Rattle.part_search.specs.Tuples.{OpenNode, open_of}
 use Rattle.part_search.specs.declared.open_node.Open.{Open}
-use Rattle.proof_spool.specs.Stopped.{open_leaf}
+use Rattle.proof_check.specs.Acceptance.{CopiesLeaves, ReadsLeaves}
+use Rattle.proof_check.specs.Flow.{Flow}
+use Rattle.proof_check.proofs.Accepting.{ReadsLeaves-copied}
+use Rattle.proof_versions.proofs.Streams.{IsCovering-read, PairProvesFor-known}
+use Rattle.proof_spool.specs.Stopped.{IsLeftBy, IsOverAnother, open_leaf}
 
 -- the leaf's node is of size n
 abbrev IsSized : ℕ → Leaf → Type 0
@@ -103,3 +107,29 @@ left_of I x c ls opens covering size is placed =
         };
       };
     })
+
+-- the known text of a checked proof was read
+known_of : (I : Problem) (text : List ℕ) (old new : Flow) (x : Placement) (c g : ℤ) (p : List ℕ) (ls : List Leaf) → old.left ≡ Some text → CopiesLeaves I old new x c g c p ls → ReadsLeaves I (Some text) x c g c ls
+known_of I text old new x c g p ls known h = subst (λ (o : Option (List ℕ)). ReadsLeaves I o x c g c ls) known (ReadsLeaves-copied I old new x c g c p ls h)
+
+-- what its leaves leave open
+pub left_by : (I : Problem) (text : List ℕ) (old new : Flow) (x : Placement) (c g : ℤ) (p : List ℕ) (ls : List Leaf) (opens : List Open) → old.left ≡ Some text → CopiesLeaves I old new x c g c p ls
+    → map open_of opens ≡ map open_leaf ls → All IsPlacement (map node_part opens) → IsLeftBy I text x p c g (map open_of opens)
+left_by I text old new x c g p ls opens known h is placed =
+    let read = known_of I text old new x c g p ls known h in
+    record {
+      proves = PairProvesFor-known I text x c g c ls read;
+      permutes = record { bijection = h.is_text.proof.permutation.bijection; same_size = h.proved.same_size };
+      costs = h.proved.cost;
+      left = left_of I x c ls opens (IsCovering-read I (Some text) x c g ls read) (sized h.tree I (step_of I) g c x None ls h.leaves) is placed;
+    }
+
+-- a proof over another root
+pub over_another : (I : Problem) (text : List ℕ) (old new : Flow) (x y : Placement) (c g : ℤ) (p : List ℕ) (ls : List Leaf) → old.left ≡ Some text → CopiesLeaves I old new x c g c p ls → x ≢ y → IsOverAnother I text y
+over_another I text old new x y c g p ls known h differs = record {
+  other = x;
+  cost = c;
+  bound = g;
+  proves = PairProvesFor-known I text x c g c ls (known_of I text old new x c g p ls known h);
+  differs = differs;
+}

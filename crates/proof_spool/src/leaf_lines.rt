@@ -1,6 +1,8 @@
 //! Where the leaves of some nodes stand in the text of a proof's tree: advice, which no proof relies on. The text need not be spelled as
 //! it should be.
 
+ghost use Rattle.std.specs.Prelude.{◌≤◌, length};
+
 use crate::piece::Gap;
 use crate::spool::key_of;
 use part_search::Open;

@@ -1,9 +1,9 @@
 //! A spool that the workers of a search share.
 
 use crate::spool::Spool;
-use part_search::Pieces;
+use part_search::{Open, Pieces};
 use qap_cost::Partial;
-use std::io::Write;
+use std::io::{self, Write};
 use std::sync::{Mutex, Wait};
 use subtree_search::TextRecord;
 
@@ -30,6 +30,16 @@ impl<R: Wait, F: Drop> SharedSpool<'_, R, F> {
     /// Takes the spool away, so that nothing more is kept.
     pub fn take(&self) -> Option<Spool<F>> {
         self.spool.lock(self.rt).take()
+    }
+}
+
+impl<R: Wait, F: Write> SharedSpool<'_, R, F> {
+    /// Adds the tree of an earlier proof as `Spool::keep_proof` does, if there is a spool.
+    pub fn keep_proof(&self, root: &Partial, text: &[u8], opens: &[Open]) -> io::Result<()> {
+        match self.spool.lock(self.rt).as_mut() {
+            Some(spool) => spool.keep_proof(root, text, opens),
+            None => Ok(()),
+        }
     }
 }
 

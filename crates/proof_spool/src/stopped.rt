@@ -4,7 +4,7 @@ ghost use Rattle.std.specs.Prelude.{◌≡◌, All, IfErr, IfOk, MatchOption, ma
 ghost use Rattle.qap_cost.specs.Placement.{IsPlacement};
 ghost use Rattle.part_search.specs.Ground.{node_part};
 ghost use Rattle.part_search.specs.Tuples.{open_of};
-ghost use Rattle.proof_versions.specs.Streams.{StreamRefuses};
+ghost use Rattle.proof_check.specs.Fault.{IsPairRefusal};
 ghost use Rattle.proof_spool.specs.Stopped.{IsLeftBy, IsOverAnother, open_leaf};
 
 use part_search::Open;
@@ -13,7 +13,7 @@ use proof_versions::{copy_leaves_stream, is_same_node};
 use qap_cost::{Instance, Partial, Perm};
 use qap_proof::{Leaf, ProofError};
 use std::alloc::{AllocError, Global};
-use std::io::{BufRead, Write};
+use std::io::sink;
 
 /// What a run that was stopped has left: the best permutation that it found, the bound that it proved, and the open nodes that remain
 /// to be searched.
@@ -25,18 +25,21 @@ pub struct Stopped {
     pub opens: Vec<Open>,
 }
 
-/// What the run has left whose proof of version 2 over this root is all that a reader has left; `None` if it is one over another
-/// root. The text is checked as in `proof_versions::accept_stream`, and copied as it is read.
-pub fn stopped_run<R: BufRead, W: Write>(
+/// What the run has left whose proof of version 2 over this root is the text; `None` if it is one over another root. The text is
+/// checked, and faults are reported, as in `proof_check::accept`.
+pub fn stopped_run(
     alloc: Global,
     instance: &Instance,
     root: &Partial,
-    reader: &mut Tee<R, W>,
+    text: &[u8],
 ) -> Result<Option<Stopped>, ProofError>
-    ensures left { IfOk result (λ found. MatchOption found (IsOverAnother instance.now reader.old.left root.now) (IsLeftBy instance.now reader.old.left root.now)) }
-    ensures refused { IfErr result (StreamRefuses instance.now reader.old.left) }
+    ensures left { IfOk result (λ found. MatchOption found
+        (IsOverAnother instance.now text.now root.now)
+        (λ s. IsLeftBy instance.now text.now root.now s.permutation s.cost s.bound (map open_of s.opens.items))) }
+    ensures refused { IfErr result (IsPairRefusal instance.now text.now) }
 {
-    let checked = copy_leaves_stream(alloc, instance, reader)?;
+    let mut reader = Tee::new(text, sink());
+    let checked = copy_leaves_stream(alloc, instance, &mut reader)?;
     if !is_same_node(&checked.root, root) {
         return Ok(None);
     }
