@@ -35,6 +35,12 @@ pub enum PlannerError {
     /// A search left no proof.
     #[error("the search left no proof: report this fault of the program")]
     NoProof,
+    /// The proof of an earlier run is not over the node that is searched.
+    #[error("the proof is over another node: go on from one of this search, with the same facilities fixed")]
+    OtherRoot,
+    /// The proof of an earlier run is not of version 2.
+    #[error("a search goes on only from a proof of version 2, which is written with at most 36 facilities free and without --nodes")]
+    OtherVersion,
     /// A start moves what is fixed, or uses a forbidden place.
     #[error("the arrangement moves what is fixed, or uses a forbidden place: change it, or leave out --start")]
     StartForbidden,

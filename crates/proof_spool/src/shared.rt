@@ -3,7 +3,7 @@
 use crate::spool::Spool;
 use part_search::{Open, Pieces};
 use qap_cost::Partial;
-use std::io::{self, Write};
+use std::io::Write;
 use std::sync::{Mutex, Wait};
 use subtree_search::TextRecord;
 
@@ -35,10 +35,9 @@ impl<R: Wait, F: Drop> SharedSpool<'_, R, F> {
 
 impl<R: Wait, F: Write> SharedSpool<'_, R, F> {
     /// Adds the tree of an earlier proof as `Spool::keep_proof` does, if there is a spool.
-    pub fn keep_proof(&self, root: &Partial, text: &[u8], opens: &[Open]) -> io::Result<()> {
-        match self.spool.lock(self.rt).as_mut() {
-            Some(spool) => spool.keep_proof(root, text, opens),
-            None => Ok(()),
+    pub fn keep_proof(&self, root: &Partial, text: &[u8], opens: &[Open]) {
+        if let Some(spool) = self.spool.lock(self.rt).as_mut() {
+            spool.keep_proof(root, text, opens);
         }
     }
 }

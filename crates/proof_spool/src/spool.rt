@@ -83,9 +83,19 @@ impl<F: Write> Spool<F> {
         self.write(node, piece.text(), gaps)
     }
 
-    /// Adds the tree of a proof over a root, from the text of that proof, in place of the leaves of which other pieces are to come: those of
-    /// these open nodes. It is refused as bad data if it does not have a line for each of them.
-    pub fn keep_proof(&mut self, root: &Partial, text: &[u8], opens: &[Open]) -> io::Result<()> {
+    /// Adds the tree of an earlier proof over a root at the end of the file, from the text of that proof. The pieces over these open
+    /// nodes, which are leaves of the tree, are to stand in place of their lines. Once that fails, nothing more is added; it does if
+    /// there is no line for one of them.
+    pub fn keep_proof(&mut self, root: &Partial, text: &[u8], opens: &[Open]) {
+        if self.failure.is_some() {
+            return;
+        }
+        if let Err(error) = self.add_proof(root, text, opens) {
+            self.failure = Some(error);
+        }
+    }
+
+    fn add_proof(&mut self, root: &Partial, text: &[u8], opens: &[Open]) -> io::Result<()> {
         let tree = tree_in(text);
         let gaps = gaps_in(self.alloc, root, tree, opens)?;
         if gaps.len() < opens.len() {

@@ -41,13 +41,15 @@ pub struct ChargedAnswer {
     pub text: Vec<u8>,
 }
 
-/// Searches the arrangements that respect what is fixed and use no forbidden place, from a start or any of them, and
-/// gives the best one found with the text of the answer, in the plan's own units.
+/// Searches the arrangements that respect what is fixed and use no forbidden place, from a start or any of them, and from
+/// the proof of an earlier run, if one is given, and gives the best one found with the text of the answer, in the plan's own
+/// units.
 pub fn charged_answer<T, K>(
     system: &T,
     alloc: Global,
     charged: &ChargedProblem<'_>,
     start: Option<Perm>,
+    resumed: Option<Vec<u8>>,
     options: &Options,
     hooks: &RunHooks<'_, T, K>,
 ) -> Result<ChargedAnswer, PlannerError>
@@ -74,6 +76,7 @@ where
         &problem.instance,
         &restriction,
         &first,
+        resumed,
         options,
         hooks,
     )?;

@@ -24,6 +24,8 @@ pub struct Request<'a> {
     pub file: &'a str,
     /// The file of the start.
     pub start: Option<&'a str>,
+    /// The file of the proof of an earlier run, from which the search goes on.
+    pub resume: Option<&'a str>,
     pub options: Options,
     /// The file that the answer is written to too.
     pub out: Option<&'a str>,
@@ -146,6 +148,12 @@ fn solve_command<'a>(alloc: Global) -> Result<Command<'a>, AllocError> {
         )?;
     let command = with_improvement(alloc, with_limits(alloc, command)?)?;
     with_start(alloc, command)?
+        .arg(
+            Arg::new(alloc, "resume")
+                .long("resume")
+                .value_name("PROOF")
+                .help("go on from where a run with --proof stopped that wrote this file"),
+        )?
         .arg(
             Arg::new(alloc, "out")
                 .long("out")
@@ -335,6 +343,7 @@ fn request_of<'a>(found: &ArgMatches<'a>) -> Option<Request<'a>>
     Some(Request {
         file: found.get_str("FILE")?,
         start: found.get_str("start"),
+        resume: found.get_str("resume"),
         options: options_of(found, found.get_flag("ignore-rest"), proof.is_some())?,
         out: found.get_str("out"),
         json: found.get_str("json"),

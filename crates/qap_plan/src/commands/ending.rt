@@ -15,13 +15,16 @@ use std::alloc::Global;
 
 /// The file that an error is about.
 pub(crate) fn faulty_file<'a>(request: &Request<'a>, error: PlannerError) -> &'a str {
-    match (request.start, error) {
-        (
-            Some(start),
-            PlannerError::Start(_) | PlannerError::StartCost(_) | PlannerError::StartForbidden,
-        ) => start,
-        _ => request.file,
-    }
+    let file = match error {
+        PlannerError::Start(_) | PlannerError::StartCost(_) | PlannerError::StartForbidden => {
+            request.start
+        }
+        PlannerError::Proof(_) | PlannerError::OtherRoot | PlannerError::OtherVersion => {
+            request.resume
+        }
+        _ => None,
+    };
+    file.unwrap_or(request.file)
 }
 
 /// Prints the answer and writes the requested files, each independently of the others, and returns how the run ends.

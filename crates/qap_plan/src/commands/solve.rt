@@ -10,11 +10,12 @@ ghost use Rattle.plan_files.specs.Outputs.{IsSuccess};
 
 use crate::commands::command_line::Request;
 use crate::commands::compare::note_all;
-use crate::commands::ending::write_outputs;
+use crate::commands::ending::{faulty_file, write_outputs};
 use crate::commands::solve_restricted::solve_restricted;
 use crate::output::plan_outcome::PlanOutcome;
 use crate::output::progress::{Teller, telling_of};
 use crate::output::proof_file::{Proved, with_proof};
+use crate::search::resuming::{given_in, search_resuming};
 use crate::search::spooling::{RunHooks, spool_for};
 use plan_file::{NamedProblem, ascending};
 use plan_files::{
@@ -22,7 +23,7 @@ use plan_files::{
     start_in,
 };
 use plan_input::{Disk, Loaded, Texts};
-use plan_search::{Keeper, Options, RunClock, search_keeping};
+use plan_search::{Keeper, Options, RunClock};
 use proof_spool::SharedSpool;
 use qap_cost::Perm;
 use qap_io::Status;
@@ -96,6 +97,7 @@ where
 {
     let problem = &loaded.problem;
     let start = start_in(alloc, texts, problem, request.start)?;
+    let resumed = given_in(alloc, texts, request.resume)?;
     let names = [
         request.out,
         request.json,
@@ -107,13 +109,13 @@ where
     if let Err(status) = sink.open(alloc, &names, &inputs_of(request.file, loaded)) {
         return Err(Refusal::Reported(status));
     }
-    match search_and_write(system, alloc, sink, request, loaded, &start, keeper) {
+    match search_and_write(system, alloc, sink, request, loaded, &start, resumed, keeper) {
         Ok(status) => Ok(status),
-        Err(_) => Err(Refusal::File(request.file, PlannerError::OutOfMemory)),
+        Err(error) => Err(Refusal::File(faulty_file(request, error), error)),
     }
 }
 
-/// Searches from a start, if there is one, and writes what that finds.
+/// Searches from a start, if there is one, and from the proof of an earlier run, if one is given, and writes what that finds.
 fn search_and_write<T, S, K>(
     system: &T,
     alloc: Global,
@@ -121,8 +123,9 @@ fn search_and_write<T, S, K>(
     request: &Request<'_>,
     loaded: &Loaded,
     start: &Option<Perm>,
+    resumed: Option<Vec<u8>>,
     keeper: &K,
-) -> Result<Status, AllocError>
+) -> Result<Status, PlannerError>
 where
     T: Threads + Wait + time::Clock + Sync,
     S: Sink,
@@ -141,7 +144,7 @@ where
         pieces: &SharedSpool::new(system, spool),
     };
     let (problem, options) = (&loaded.problem, &request.options);
-    let answer = arranged(system, alloc, problem, start, options, &hooks)?;
+    let answer = arranged(system, alloc, problem, start, resumed, options, &hooks)?;
     let found = PlanOutcome {
         loaded,
         start,
@@ -152,15 +155,17 @@ where
     Ok(write_outputs(alloc, sink, request, found))
 }
 
-/// What the search of the arrangements that keep what is fixed finds, from a start if there is one.
+/// What the search of the arrangements that keep what is fixed finds, from a start if there is one, and from the proof of an
+/// earlier run, if one is given.
 fn arranged<T, K>(
     system: &T,
     alloc: Global,
     problem: &NamedProblem,
     start: &Option<Perm>,
+    resumed: Option<Vec<u8>>,
     options: &Options,
     hooks: &RunHooks<'_, T, K>,
-) -> Result<Proved, AllocError>
+) -> Result<Proved, PlannerError>
 where
     T: Threads + Wait + time::Clock + Sync,
     K: Keeper,
@@ -173,7 +178,8 @@ where
     let (instance, fixed) = (&problem.instance, &problem.fixed);
     let first = copy_of(start)?;
     let root = ascending(alloc, fixed)?;
-    let found = search_keeping(system, alloc, instance, fixed, first, options, hooks);
+    let found =
+        search_resuming(system, alloc, instance, fixed, first, resumed, options, hooks);
     hooks.keeper.finish();
     let found = found?;
     let answer = with_proof(alloc, instance, &root, found, hooks.pieces);

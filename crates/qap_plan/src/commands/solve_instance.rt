@@ -1,13 +1,12 @@
 //! A run on an instance without names.
 
-ghost use Rattle.std.specs.Prelude.{IfOk, IfSome, option_copied, option_map};
+ghost use Rattle.std.specs.Prelude.{IfOk, IfSome, option_map};
 ghost use Rattle.qap_cost.specs.Placement.{root_of};
 ghost use Rattle.qap_plan.specs.Proofs.{Is, MakesFor};
 ghost use Rattle.qap_plan.specs.Answered.{AnswersInstance, HasFoundIn};
 ghost use Rattle.plan_search.specs.Options.{AreLimited};
 ghost use Rattle.plan_search.specs.Planning.{ProvesOver};
 ghost use Rattle.plan_files.specs.Outputs.{IsSuccess};
-ghost use Rattle.plan_files.specs.Sources.{IsGivenIn};
 ghost use Rattle.plan_files.specs.Starting.{IsReaderOf};
 
 use crate::commands::answering::plan_stream;
@@ -16,10 +15,13 @@ use crate::commands::ending::{faulty_file, write_outputs};
 use crate::output::found_outcome::FoundOutcome;
 use crate::output::progress::{Teller, telling_of};
 use crate::output::proof_file::{Proved, with_proof};
+use crate::search::resuming::{given_in, stopped_in};
 use crate::search::spooling::{RunHooks, spool_for};
-use plan_files::{Misuse, Outputs, PlannerError, Refusal, Sink, bytes_in, ended};
+use plan_files::{
+    Misuse, Outputs, PlannerError, Refusal, Sink, bytes_in, ended, read_problem, read_start,
+};
 use plan_input::{Disk, Texts};
-use plan_search::{Keeper, Planned, RunClock};
+use plan_search::{Keeper, Left, Planned, RunClock, search_from};
 use proof_spool::SharedSpool;
 use qap_cost::{Instance, Partial};
 use qap_io::{Counted, Status};
@@ -65,7 +67,8 @@ where
         return Err(Refusal::Misuse(request.file, misuse));
     }
     let bytes = bytes_in(alloc, texts, request.file)?;
-    let start = start_in(alloc, texts, request.start)?;
+    let start = given_in(alloc, texts, request.start)?;
+    let resumed = given_in(alloc, texts, request.resume)?;
     let names = [request.out, request.json, request.proof];
     if let Err(status) = sink.open(alloc, &names, &[request.file]) {
         return Err(Refusal::Reported(status));
@@ -78,7 +81,7 @@ where
         keeper,
         pieces: &SharedSpool::new(system, spool),
     };
-    let (instance, answer) = match found(system, alloc, request, &bytes, &start, &hooks) {
+    let (instance, answer) = match found(system, alloc, request, &bytes, &start, resumed, &hooks) {
         Ok(found) => found,
         Err(error) => return Err(Refusal::File(faulty_file(request, error), error)),
     };
@@ -104,27 +107,15 @@ fn misuse_of(request: &Request<'_>) -> Option<Misuse> {
     None
 }
 
-/// The bytes of the file of a start, if one is named.
-fn start_in<'a, D: Texts>(
-    alloc: Global,
-    texts: &D,
-    file: Option<&'a str>,
-) -> Result<Option<Vec<u8>>, Refusal<'a>>
-    ensures { IfOk result (λ given. IsGivenIn (D.holds texts.now) (option_copied file.entry) (option_map (λ v. v.items) given)) }
-{
-    match file {
-        Some(file) => Ok(Some(bytes_in(alloc, texts, file)?)),
-        None => Ok(None),
-    }
-}
-
-/// An instance, and what its search finds, from a start if there is one, with its proof if one is requested.
+/// An instance, and what its search finds, from a start if there is one, and from the proof of an earlier run, if one is given;
+/// with its proof if one is requested.
 fn found<T, K>(
     system: &T,
     alloc: Global,
     request: &Request<'_>,
     instance: &[u8],
     start: &Option<Vec<u8>>,
+    resumed: Option<Vec<u8>>,
     hooks: &RunHooks<'_, T, K>,
 ) -> Result<(Instance, Proved), PlannerError>
 where
@@ -134,7 +125,12 @@ where
     ensures found { IfOk result (λ a. HasFoundIn instance.now (option_map (λ v. v.items) start.now) request.now.options.passes a.0 a.1.planned) }
     ensures proof { IfOk result (λ a. IfSome a.1.proof (MakesFor a.0 (Is (root_of a.0.size)) a.1.planned.permutation a.1.planned.cost a.1.planned.bound)) }
 {
-    let read = searched(system, alloc, request, instance, start, hooks)?;
+    let read = match resumed {
+        Some(text) => resumed_from(system, alloc, request, instance, start, text, hooks),
+        None => searched(system, alloc, request, instance, start, hooks),
+    };
+    hooks.keeper.finish();
+    let read = read?;
     let (problem, found) = read;
     let root = Partial::root(alloc, problem.size())?;
     let answer = with_proof(alloc, &problem, &root, found, hooks.pieces);
@@ -167,11 +163,41 @@ where
         &request.options,
         hooks,
     );
-    hooks.keeper.finish();
     match answer {
         Ok(answer) => Ok(answer),
         Err(error) => Err(error.in_memory()),
     }
+}
+
+/// Likewise from the proof of an earlier run.
+fn resumed_from<T, K>(
+    system: &T,
+    alloc: Global,
+    request: &Request<'_>,
+    instance: &[u8],
+    start: &Option<Vec<u8>>,
+    text: Vec<u8>,
+    hooks: &RunHooks<'_, T, K>,
+) -> Result<(Instance, Planned), PlannerError>
+where
+    T: Threads + Wait + time::Clock + Sync,
+    K: Keeper,
+    requires { AreLimited request.now.options }
+    ensures found { IfOk result (λ a. HasFoundIn instance.now (option_map (λ v. v.items) start.now) request.now.options.passes a.0 a.1) }
+    ensures proof { IfOk result (λ a. IfSome a.1.proof (ProvesOver a.0 (root_of a.0.size) a.1.permutation a.1.cost a.1.bound)) }
+{
+    let mut reader = Counted::new(instance);
+    let problem = read_problem(alloc, &mut reader, request.options.passes)?;
+    let mut begins = reader_of(start);
+    let first = read_start(alloc, &mut begins, &problem)?;
+    let root = Partial::root(alloc, problem.size())?;
+    let stopped = stopped_in(alloc, &problem, &root, text, hooks.pieces)?;
+    let left = Left {
+        permutation: &stopped.permutation,
+        opens: &stopped.opens,
+    };
+    let found = search_from(system, alloc, &problem, first, Some(left), &request.options, hooks)?;
+    Ok((problem, found))
 }
 
 /// A reader of the text of a start, if there is one.

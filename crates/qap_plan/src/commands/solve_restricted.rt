@@ -15,6 +15,7 @@ use crate::commands::charged_answer::{ChargedAnswer, ChargedProblem, charged_ans
 use crate::commands::charged_outcome::ChargedOutcome;
 use crate::commands::command_line::Request;
 use crate::commands::ending::{faulty_file, write_outputs};
+use crate::search::resuming::given_in;
 use crate::search::spooling::{RunHooks, spool_for};
 use plan_file::NamedProblem;
 use plan_files::{Misuse, PlannerError, Refusal, Sink, inputs_of, layout_in, text_in};
@@ -54,6 +55,7 @@ where
         return Err(Refusal::Misuse(request.file, Misuse::Restricted("--report")));
     }
     let start = start_in(alloc, texts, &loaded.problem, request.start)?;
+    let resumed = given_in(alloc, texts, request.resume)?;
     let names = [
         request.out,
         request.json,
@@ -64,13 +66,13 @@ where
     if let Err(status) = sink.open(alloc, &names, &inputs_of(request.file, loaded)) {
         return Err(Refusal::Reported(status));
     }
-    match search_and_write(system, alloc, sink, request, loaded, start, keeper) {
+    match search_and_write(system, alloc, sink, request, loaded, start, resumed, keeper) {
         Ok(status) => Ok(status),
         Err(error) => Err(Refusal::File(faulty_file(request, error), error)),
     }
 }
 
-/// Searches from a start, if there is one, and writes what that finds.
+/// Searches from a start, if there is one, and from the proof of an earlier run, if one is given, and writes what that finds.
 fn search_and_write<T, S, K>(
     system: &T,
     alloc: Global,
@@ -78,6 +80,7 @@ fn search_and_write<T, S, K>(
     request: &Request<'_>,
     loaded: &Loaded,
     start: Option<Perm>,
+    resumed: Option<Vec<u8>>,
     keeper: &K,
 ) -> Result<Status, PlannerError>
 where
@@ -98,7 +101,7 @@ where
         keeper,
         pieces: &SharedSpool::new(system, spool),
     };
-    let answer = charged(system, alloc, request, loaded, start, &hooks)?;
+    let answer = charged(system, alloc, request, loaded, start, resumed, &hooks)?;
     let found = ChargedOutcome {
         loaded,
         answer,
@@ -107,13 +110,14 @@ where
     Ok(write_outputs(alloc, sink, request, found))
 }
 
-/// What the search from a start finds, if there is one.
+/// What the search finds, from a start if there is one, and from the proof of an earlier run, if one is given.
 fn charged<T, K>(
     system: &T,
     alloc: Global,
     request: &Request<'_>,
     loaded: &Loaded,
     start: Option<Perm>,
+    resumed: Option<Vec<u8>>,
     hooks: &RunHooks<'_, T, K>,
 ) -> Result<ChargedAnswer, PlannerError>
 where
@@ -131,7 +135,8 @@ where
         charges: &loaded.charges,
         forbidden: &loaded.forbidden,
     };
-    let answer = charged_answer(system, alloc, &charged, start, &request.options, hooks);
+    let options = &request.options;
+    let answer = charged_answer(system, alloc, &charged, start, resumed, options, hooks);
     hooks.keeper.finish();
     answer
 }

@@ -8,12 +8,13 @@ ghost use Rattle.qap_cost.specs.Bijection.{IsPerm};
 ghost use Rattle.qap_plan.specs.Proofs.{MakesCharged};
 ghost use Rattle.plan_search.specs.Options.{AreLimited};
 
+use crate::search::resuming::search_resuming;
 use crate::output::proof_file::{Proved, with_proof};
 use crate::search::spooling::RunHooks;
 use plan_charge::{extended_permutation, front, restricted_law};
 use plan_file::ascending;
 use plan_files::{PlannerError, Restriction, widened};
-use plan_search::{Keeper, Options, Planned, search_keeping};
+use plan_search::{Keeper, Options, Planned};
 use qap_cost::{Instance, Perm};
 use std::alloc::{AllocError, Global};
 use std::sync::Wait;
@@ -22,13 +23,14 @@ use std::time;
 
 /// Searches the arrangements that respect a restriction, from one that does, until no node is open, a limit is reached, a
 /// stop is requested, or memory runs out. The cost has what facilities pay for their locations in it. A proof is that of the
-/// larger instance, at its node.
+/// larger instance, at its node; so is that of an earlier run, from which the search goes on if one is given.
 pub fn search_restricted<T, K>(
     system: &T,
     alloc: Global,
     instance: &Instance,
     restriction: &Restriction<'_>,
     start: &Perm,
+    resumed: Option<Vec<u8>>,
     options: &Options,
     hooks: &RunHooks<'_, T, K>,
 ) -> Result<Proved, PlannerError>
@@ -49,12 +51,13 @@ where
     let count = searched.instance.size() - n;
     let first = extended_permutation(start, count)?;
     let root = ascending(alloc, &searched.node)?;
-    let found = search_keeping(
+    let found = search_resuming(
         system,
         alloc,
         &searched.instance,
         &searched.node,
         Some(first),
+        resumed,
         options,
         hooks,
     )?;
