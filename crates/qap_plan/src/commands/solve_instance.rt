@@ -125,20 +125,43 @@ where
     ensures found { IfOk result (λ a. HasFoundIn instance.now (option_map (λ v. v.items) start.now) request.now.options.passes a.0 a.1.planned) }
     ensures proof { IfOk result (λ a. IfSome a.1.proof (MakesFor a.0 (Is (root_of a.0.size)) a.1.planned.permutation a.1.planned.cost a.1.planned.bound)) }
 {
-    let read = match resumed {
-        Some(text) => resumed_from(system, alloc, request, instance, start, text, hooks),
-        None => searched(system, alloc, request, instance, start, hooks),
-    };
-    hooks.keeper.finish();
-    let read = read?;
+    let read = searched(system, alloc, request, instance, start, resumed, hooks)?;
     let (problem, found) = read;
     let root = Partial::root(alloc, problem.size())?;
     let answer = with_proof(alloc, &problem, &root, found, hooks.pieces);
     Ok((problem, answer))
 }
 
-/// An instance, and what its search finds, from a start if there is one.
+/// An instance, and what its search finds, from a start if there is one, and from the proof of an earlier run, if one is given.
 fn searched<T, K>(
+    system: &T,
+    alloc: Global,
+    request: &Request<'_>,
+    instance: &[u8],
+    start: &Option<Vec<u8>>,
+    resumed: Option<Vec<u8>>,
+    hooks: &RunHooks<'_, T, K>,
+) -> Result<(Instance, Planned), PlannerError>
+where
+    T: Threads + Wait + time::Clock + Sync,
+    K: Keeper,
+    requires { AreLimited request.now.options }
+    ensures found { IfOk result (λ a. HasFoundIn instance.now (option_map (λ v. v.items) start.now) request.now.options.passes a.0 a.1) }
+    ensures proof { IfOk result (λ a. IfSome a.1.proof (ProvesOver a.0 (root_of a.0.size) a.1.permutation a.1.cost a.1.bound)) }
+{
+    let answer = match resumed {
+        Some(text) => resumed_from(system, alloc, request, instance, start, text, hooks),
+        None => begun(system, alloc, request, instance, start, hooks),
+    };
+    hooks.keeper.finish();
+    match answer {
+        Ok(answer) => Ok(answer),
+        Err(error) => Err(error.in_memory()),
+    }
+}
+
+/// An instance, and what its search finds, from a start if there is one.
+fn begun<T, K>(
     system: &T,
     alloc: Global,
     request: &Request<'_>,
@@ -162,11 +185,8 @@ where
         &mut Counted::new(Vec::new(alloc)),
         &request.options,
         hooks,
-    );
-    match answer {
-        Ok(answer) => Ok(answer),
-        Err(error) => Err(error.in_memory()),
-    }
+    )?;
+    Ok(answer)
 }
 
 /// Likewise from the proof of an earlier run.
