@@ -1,8 +1,6 @@
 //! Where the leaves of some nodes stand in the text of a proof's tree: advice, which no proof relies on. The text need not be spelled as
 //! it should be.
 
-ghost use Rattle.std.specs.Prelude.{◌≤◌, length};
-
 use crate::piece::Gap;
 use crate::spool::key_of;
 use part_search::Open;
@@ -17,22 +15,36 @@ const END: &[u8] = b"end\n";
 pub(crate) fn tree_in(text: &[u8]) -> &[u8] {
     let mut rest = text;
     for _ in 0..text.len() {
-        if rest.is_empty() || rest.starts_with(b"p ") {
+        if rest.starts_with(b"p ") {
             break;
         }
-        (_, rest) = rest.split_at(line_end(rest));
+        rest = rest_from(rest, first_line(rest).len());
     }
-    rest.strip_suffix(END).unwrap_or(rest)
+    match rest.len().checked_sub(END.len()) {
+        Some(length) if rest_from(rest, length) == END => rest.get(..length).unwrap_or(rest),
+        _ => rest,
+    }
 }
 
-/// How many bytes the first line has, with its end.
-fn line_end(text: &[u8]) -> usize
-    ensures { result ≤ length text.now }
-{
+/// The first line of a text, with its end.
+fn first_line(text: &[u8]) -> &[u8] {
     match text.iter().position(|byte| *byte == b'\n') {
-        Some(place) => (place + 1).min(text.len()),
-        None => text.len(),
+        Some(place) => text.get(..place.saturating_add(1)).unwrap_or(text),
+        None => text,
     }
+}
+
+/// The first word of a text, which a blank ends.
+fn first_word(text: &[u8]) -> &[u8] {
+    match text.iter().position(|byte| *byte == b' ') {
+        Some(place) => text.get(..place).unwrap_or(text),
+        None => text,
+    }
+}
+
+/// A text from a place on.
+fn rest_from(text: &[u8], place: usize) -> &[u8] {
+    text.get(place..).unwrap_or(&[])
 }
 
 /// A split whose children are being read: how much its node places, what it is on, the free ones of the other side, ascending, the
@@ -76,13 +88,14 @@ pub(crate) fn gaps_in(
     let mut gaps = Vec::new(alloc);
     let mut begins = 0;
     for _ in 0..tree.len() {
-        let (_, rest) = tree.split_at(begins.min(tree.len()));
-        if rest.is_empty() {
+        let line = first_line(rest_from(tree, begins));
+        if line.is_empty() {
             break;
         }
-        let (line, _) = rest.split_at(line_end(rest));
         let ends = begins.saturating_add(line.len());
-        if line.starts_with(b"x") && let Some(bound) = values.get(&reading.placed) {
+        if line.starts_with(b"x")
+            && let Some(bound) = values.get(&reading.placed)
+        {
             gaps.push(Gap {
                 below: below(alloc, &reading.placed, top)?,
                 bound: *bound,
@@ -134,16 +147,15 @@ impl Reading {
 
     /// Splits the current node by a line.
     fn split(&mut self, line: &[u8], is_on_facility: bool) -> Result<(), AllocError> {
-        let mut words = line.split(|byte| *byte == b' ');
-        let _ = words.next();
-        let number = number_in(words.next().unwrap_or(b"1"));
+        let behind_letter = rest_from(line, 2);
+        let word = first_word(behind_letter);
         let mut marks = Vec::new(self.alloc);
-        marks.extend_from_slice(words.next().unwrap_or(b""))?;
+        marks.extend_from_slice(first_word(rest_from(behind_letter, word.len().saturating_add(1))))?;
         let others = self.free(usize::from(is_on_facility))?;
         self.levels.push(Level {
             depth: self.placed.len(),
             is_on_facility,
-            number,
+            number: number_in(word),
             others,
             marks,
             passed: 0,
@@ -157,13 +169,17 @@ impl Reading {
             is_free.push(true)?;
         }
         for (place, number) in self.placed.iter().enumerate() {
-            if place % 2 == side && let Some(free) = is_free.get_mut(usize::from(*number)) {
+            if place % 2 == side
+                && let Some(free) = is_free.get_mut(usize::from(*number))
+            {
                 *free = false;
             }
         }
         let mut free = Vec::new(self.alloc);
         for (number, is_one) in is_free.iter().enumerate() {
-            if *is_one && let Ok(number) = u16::try_from(number) {
+            if *is_one
+                && let Ok(number) = u16::try_from(number)
+            {
                 free.push(number)?;
             }
         }
