@@ -80,7 +80,7 @@ impl<F: Write> Spool<F> {
 
     fn add(&mut self, node: &Partial, piece: &TextRecord) -> io::Result<()> {
         let gaps = gaps_of(self.alloc, piece.holes())?;
-        self.write(node, piece.text(), gaps)
+        self.put(node, piece.text(), gaps)
     }
 
     /// Adds the tree of an earlier proof over a root at the end of the file, from the text of that proof. The pieces over these open
@@ -101,10 +101,10 @@ impl<F: Write> Spool<F> {
         if gaps.len() < opens.len() {
             return Err(io::Error::from(io::ErrorKind::InvalidData));
         }
-        self.write(root, tree, gaps)
+        self.put(root, tree, gaps)
     }
 
-    fn write(&mut self, node: &Partial, text: &[u8], gaps: Vec<Gap>) -> io::Result<()> {
+    fn put(&mut self, node: &Partial, text: &[u8], gaps: Vec<Gap>) -> io::Result<()> {
         self.file.write_all(text)?;
         self.note(node, text.len() as u64, gaps)?;
         Ok(())

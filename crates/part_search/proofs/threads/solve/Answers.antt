@@ -1,10 +1,16 @@
+use Rattle.std.proofs.Common.{◌≡◌, List, map, rules, subst}
 use Rattle.std.specs.Arc.{arc_value}
-use Rattle.part_search.specs.Opening.{part_from}
-use Rattle.part_search.proofs.Behind.{ran_by}
+use Rattle.qap_cost.specs.Instance.{Problem}
+use Rattle.qap_cost.specs.Objective.{cost_of}
+use Rattle.part_search.specs.Covers.{AreLeft}
+use Rattle.part_search.specs.Tuples.{open_of}
 use Rattle.part_search.proofs.threads.solve.Goals as goal
 
-pub returns-clause-ran : goal.returns-clause-ran
-returns-clause-ran g c =
-    let S = part_from (arc_value c.args.task.now.ground.now) c.args.task.now.root.now c.args.task.now.start.now in
-    let read = c.in_ok-answer.ensures in
-    ran_by S c.args.crew c.in_ok-space.space c.in_ok-answer.answer c.in_ok-space.ensures.ran read.nodes read.read
+pub solve_from-requires-clause-opens : goal.solve_from-requires-clause-opens
+solve_from-requires-clause-opens g c = λ κs alive.
+    let I = arc_value c.args.task.now.ground.now in
+    let cost = cost_of I c.args.task.now.start.now in
+    let items = c.in_ok-opens.opens.items in
+    let same : c.instance.result.now ≡ I = search rules in
+    let list : c.deref-2.result.now ≡ items = search rules in
+    rw (list) (subst (λ (J : Problem). AreLeft J c.args.task.now.root.now cost (map open_of items)) same (c.in_ok-opens.ensures {u = tt} cost))
