@@ -1,4 +1,5 @@
-use Rattle.std.proofs.Common.{◌≡◌, ◌∙◌, rules, w64}
+use Rattle.std.proofs.lemmas.Grind.{common_steps}
+use Rattle.std.proofs.Common.{arith, ◌≡◌, ◌∙◌, rules, w64}
 use Rattle.std.specs.Int.{int_max, int_min}
 use Rattle.std.proofs.lemmas.Int.{to_z-of_z}
 use Rattle.plan_charge.specs.Charges.{charge_of}
@@ -18,3 +19,6 @@ loop-k-preserved c =
       least = to_z-of_z w64 c.min-least.result (search rules) ∙ least-more f c.loop-k.k c.loop-k.least next c.min-least.result least c.charge-next.ensures.value low;
       greatest = to_z-of_z w64 c.max-greatest.result (search rules) ∙ greatest-more f c.loop-k.k c.loop-k.greatest next c.max-greatest.result greatest c.charge-next.ensures.value high;
     }
+
+pub returns-clause-value : goal.returns-clause-value
+returns-clause-value c = grind (arith, common_steps)

@@ -1,3 +1,4 @@
+use Rattle.std.proofs.lemmas.Grind.{common_steps}
 use Rattle.std.proofs.Common.{◌≡◌, ℤ, ◌∙◌, ap, subst, sym, to_z, of_z, arith}
 use Rattle.std.specs.Int.{w128}
 use Rattle.qap_cost.specs.Instance.{Problem}
@@ -19,3 +20,27 @@ invariant_of-result c =
     let cost_is : to_z w128 (of_z w128 c.proof.inside.cost) ≡ c.proof.inside.cost = reads_wide c.proof.inside.cost (omega (arith, c.proof.invariant.cost)) in
     subst (λ (x : Placement). IsCovering (cover_of I x (to_z w128 (of_z w128 c.proof.inside.cost)) ls)) (ap (λ (D : Claim). D.root) (sym c.proof.view_is))
     (subst (λ (z : ℤ). IsCovering (cover_of I C.root z ls)) (ap (λ (D : Claim). D.cost) (sym c.proof.view_is) ∙ sym cost_is) covering)
+
+pub read-requires : goal.read-requires
+read-requires c = grind (arith, common_steps)
+
+pub returns-in_err-proof : goal.returns-in_err-proof
+returns-in_err-proof c = grind (arith, common_steps)
+
+pub check-requires : goal.check-requires
+check-requires c = grind (arith, common_steps)
+
+pub returns-in_err-check : goal.returns-in_err-check
+returns-in_err-check c = grind (arith, common_steps)
+
+pub new-requires : goal.new-requires
+new-requires c = grind (arith, common_steps)
+
+pub returns-in_err-ranked : goal.returns-in_err-ranked
+returns-in_err-ranked c = grind (arith, common_steps)
+
+pub proof_leaves-requires : goal.proof_leaves-requires
+proof_leaves-requires c = grind (arith, common_steps)
+
+pub returns-in_err-leaves : goal.returns-in_err-leaves
+returns-in_err-leaves c = grind (arith, common_steps)
